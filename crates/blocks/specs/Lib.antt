@@ -1,0 +1,4 @@
+pub mod Blocks
+pub mod Declines
+pub mod Meaning
+pub mod Rules

@@ -85,3 +85,15 @@ pub standing-none : (n : ℕ) (r : Row) → r .counts .standing ≡ 0 → 0 ≡ 
 unfolding standing-in counts-of
 standing-none zero r e = refl
 standing-none (suc n) r e = omega (arith, standing-none n r e)
+
+-- Rows that are all the same
+
+pub counts-replicate : (n : ℕ) (r : Row) → counts-of (replicate n r) ≡ replicate n (r .counts)
+unfolding counts-of
+counts-replicate zero r = refl
+counts-replicate (suc n) r = ap (λ (ks : List Counts). r .counts ∷ ks) (counts-replicate n r)
+
+pub links-replicate : (n : ℕ) (r : Row) → links-of (replicate n r) ≡ replicate n (r .link)
+unfolding links-of
+links-replicate zero r = refl
+links-replicate (suc n) r = ap (λ (ls : List Link). r .link ∷ ls) (links-replicate n r)

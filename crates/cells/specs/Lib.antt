@@ -1,3 +1,4 @@
 pub mod Counts
 pub mod Changes
 pub mod Rows
+pub mod Tables

@@ -214,12 +214,13 @@ impl Cell {
         ensures { λ r. ⌜ Becomes self (last-owner (self .counts)) (ownerless (self .counts)) r ⌝ }
     {
         let mut counts = self.counts;
-        if owned(&counts) == 0 || counts.strong > 1 || counts.loose_strong > 0 {
+        let owner = owned(&counts);
+        if owner == 0 || counts.strong > 1 || counts.loose_strong > 0 {
             return None;
         }
         counts.state = State::Counted;
         counts.strong = 0;
-        counts.weak -= 1;
+        counts.weak -= owner;
         counts.standing = 0;
         Some(Cell { counts, link: self.link })
     }

@@ -4,7 +4,8 @@ ghost use mathlib.Core.Path.{_≡_};
 ghost use mathlib.Core.Bool.{true};
 ghost use Prim.Native.Nat.{ℕ, _+_, _≤_};
 ghost use lib.ListN.{length, getD, set, replicate};
-ghost use Rattle.cells.specs.Rows.{at, link-at, counts-of, links-of, standing-in, free-row, small};
+ghost use Rattle.cells.specs.Counts.{none};
+ghost use Rattle.cells.specs.Rows.{at, link-at, at-rest, counts-of, links-of, standing-in, free-row, small};
 use crate::row::Counts;
 use crate::row::Link;
 use crate::row::Row;
@@ -65,7 +66,8 @@ fn relink(row: &mut Row, link: Link)
 impl Table {
     /// A table without cells.
     pub fn new() -> Table
-        ensures { λ r. ⌜ r .rows ≡ replicate 1024 free-row ⌝ }
+        ensures counts { λ r. ⌜ counts-of (r .rows) ≡ replicate 1024 none ⌝ }
+        ensures links { λ r. ⌜ links-of (r .rows) ≡ replicate 1024 at-rest ⌝ }
     {
         Table {
             rows: [free(); 1024],
@@ -97,6 +99,16 @@ impl Table {
             let old = rewrite(&mut self.rows[p], row);
             self.standing = self.standing - usize::from(old) + usize::from(row.counts.standing);
         }
+    }
+
+    /// No cell stands at `p` any more, and the link there stays.
+    pub fn vacate(&mut self, p: usize)
+        ensures counts { λ _. ⌜ counts-of (now (self .exit) .rows) ≡ set (counts-of (now (self .entry) .rows)) p none ⌝ }
+        ensures links { λ _. ⌜ links-of (now (self .exit) .rows) ≡ links-of (now (self .entry) .rows) ⌝ }
+    {
+        let mut row = free();
+        row.link = self.get(p).link;
+        self.put(p, row)
     }
 
     /// Moves the link of the row at `p`.

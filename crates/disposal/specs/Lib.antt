@@ -1,0 +1,4 @@
+pub mod Books
+pub mod Disposal
+pub mod Stores
+pub mod Walks

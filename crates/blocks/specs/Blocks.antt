@@ -1,5 +1,4 @@
 -- Lists of blocks. Nothing is assumed of a list but where `Apart` is asked.
-use mathlib.Core.Path.{_≡_}
 use mathlib.Core.List.{List, [], _∷_}
 use mathlib.Core.Bool.{Bool, true, false, cond, _&&_, _||_}
 use Prim.Native.Nat.{ℕ, _+_, _≤_, _<_}

@@ -1,4 +1,9 @@
 pub mod Blocks
 pub mod Declines
+pub mod Gaps
+pub mod Kinds
+pub mod Lined
 pub mod Meaning
 pub mod Rules
+pub mod Slots
+pub mod Taken

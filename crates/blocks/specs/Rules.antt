@@ -1,7 +1,7 @@
 -- When a length fits, for each allocator; the rules are on any list and length.
 use mathlib.Core.List.{List}
-use mathlib.Core.Bool.{Bool, true, false, _&&_, _||_}
-use Prim.Native.Nat.{ℕ, zero, suc, _+_, _-_, _*_, _/_, _≤_}
+use mathlib.Core.Bool.{Bool, false, _&&_, _||_}
+use Prim.Native.Nat.{ℕ, zero, suc, _+_, _-_, _*_, _/_}
 use lib.Dec.{ltb, leb}
 use lib.ListN.{length}
 use Rattle.blocks.specs.declared.block.Block.{Block}

@@ -21,13 +21,7 @@ fn owned(counts: &Counts) -> u16
 {
     match counts.state {
         State::Free => 0,
-        State::Counted => {
-            if counts.strong > 0 {
-                1
-            } else {
-                0
-            }
-        }
+        State::Counted => { if counts.strong > 0 { 1 } else { 0 } }
         State::Unique | State::Cyclic | State::Building | State::Disposing => 1,
     }
 }
@@ -107,7 +101,10 @@ impl Cell {
             return None;
         }
         counts.strong += 1;
-        Some(Cell { counts, link: self.link })
+        Some(Cell {
+            counts,
+            link: self.link,
+        })
     }
 
     /// One strong handle less, of those that are not loose.
@@ -119,7 +116,10 @@ impl Cell {
             return None;
         }
         counts.strong -= 1;
-        Some(Cell { counts, link: self.link })
+        Some(Cell {
+            counts,
+            link: self.link,
+        })
     }
 
     /// One weak handle more, unless the count is full.
@@ -131,7 +131,10 @@ impl Cell {
             return None;
         }
         counts.weak += 1;
-        Some(Cell { counts, link: self.link })
+        Some(Cell {
+            counts,
+            link: self.link,
+        })
     }
 
     /// One weak handle less, of those that are neither loose nor the owner's.
@@ -143,7 +146,10 @@ impl Cell {
         }
         let mut counts = self.counts;
         counts.weak -= 1;
-        Some(Cell { counts, link: self.link })
+        Some(Cell {
+            counts,
+            link: self.link,
+        })
     }
 
     /// A strong handle becomes loose.
@@ -155,7 +161,10 @@ impl Cell {
             return None;
         }
         counts.loose_strong += 1;
-        Some(Cell { counts, link: self.link })
+        Some(Cell {
+            counts,
+            link: self.link,
+        })
     }
 
     /// A loose strong handle becomes a held one.
@@ -167,7 +176,10 @@ impl Cell {
             return None;
         }
         counts.loose_strong -= 1;
-        Some(Cell { counts, link: self.link })
+        Some(Cell {
+            counts,
+            link: self.link,
+        })
     }
 
     /// A weak handle becomes loose.
@@ -179,7 +191,10 @@ impl Cell {
         }
         let mut counts = self.counts;
         counts.loose_weak += 1;
-        Some(Cell { counts, link: self.link })
+        Some(Cell {
+            counts,
+            link: self.link,
+        })
     }
 
     /// A loose weak handle becomes a held one.
@@ -191,7 +206,10 @@ impl Cell {
             return None;
         }
         counts.loose_weak -= 1;
-        Some(Cell { counts, link: self.link })
+        Some(Cell {
+            counts,
+            link: self.link,
+        })
     }
 
     /// The last owner goes, and the elements are on their way out: the cell is under disposal, with
@@ -222,6 +240,9 @@ impl Cell {
         counts.strong = 0;
         counts.weak -= owner;
         counts.standing = 0;
-        Some(Cell { counts, link: self.link })
+        Some(Cell {
+            counts,
+            link: self.link,
+        })
     }
 }

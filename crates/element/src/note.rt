@@ -38,6 +38,10 @@ pub impl Element for Note as NoteElement {
     ghost refs = { λ n. n .references };
 
     fn reference(&self, i: usize) -> Reference {
-        if i < 4 { self.references[i] } else { Reference::Empty }
+        if i < 4 {
+            self.references[i]
+        } else {
+            Reference::Empty
+        }
     }
 }

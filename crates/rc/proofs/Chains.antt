@@ -38,6 +38,10 @@ pub passed : (applies : Bool) (n : ℕ) → first ((applies, n) ∷ []) ≡ 0 �
 passed true n e h = absurd (omega arith)
 passed false n e h = refl
 
+pub head-passed : (applies : Bool) (n : ℕ) (checks : List (Bool × ℕ)) → 0 < n → first ((applies, n) ∷ checks) ≡ 0 → applies ≡ false
+head-passed true n checks h e = absurd (omega arith)
+head-passed false n checks h e = refl
+
 -- the first of the checks that is left decides
 pub past : (applies : Bool) (n : ℕ) (checks : List (Bool × ℕ)) → applies ≡ false → first ((applies, n) ∷ checks) ≡ first checks
 past applies n checks e = cond-false applies n (first checks) e

@@ -1,4 +1,5 @@
 pub mod Chains
 pub mod Parts
-pub mod Naming
-pub mod Copying
+pub mod Housed
+pub mod Admitted
+pub mod Fresh

@@ -23,7 +23,7 @@ use Rattle.rc.specs.declared.handle.Ticket.{Ticket}
 use Rattle.rc.specs.declared.handle.Weak.{Weak}
 use Rattle.rc.specs.Checks.{Answers, Spends, wrong-memory, no-rc, no-weak, no-loose-strong, no-loose-weak, no-strong, full-strong, full-weak}
 use Rattle.rc.specs.Declines.{number-of}
-use Rattle.rc.specs.References.{some-lacking, each, held}
+use Rattle.references.specs.References.{some-lacking, each, held}
 use Rattle.rc.specs.Tickets.{place-of, ticket-of, weak-at}
 use Rattle.rc.specs.Worlds.{World, with-row}
 

@@ -18,7 +18,7 @@ use Rattle.element.specs.declared.reference.Reference.{Reference}
 use Rattle.element.specs.declared.reference.Reference.the-variants.{Strong}
 use Rattle.rc.specs.Calls.{Made, held-strong, unfit}
 use Rattle.rc.specs.Checks.{Answers, Spends, wrong-memory, short-list, no-rc, past-memory, no-weak, no-loose-strong, slice-cell, not-sole}
-use Rattle.rc.specs.References.{each, loosened, lowered, nth, raised-upto, overflows}
+use Rattle.references.specs.References.{each, loosened, lowered, nth, raised-upto, overflows}
 use Rattle.rc.specs.Tickets.{place-of, ticket-of}
 use Rattle.rc.specs.Worlds.{World, books, with-rows, after}
 use Rattle.rc.specs.declared.decline.Decline.{Decline}

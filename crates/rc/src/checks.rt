@@ -49,7 +49,11 @@ impl<A: Allocator> Census<A> {
         let Some(cell) = Cell::of(self.store.table.get(ticket.place as usize)) else {
             return Err(Decline::Handle);
         };
-        if cell.admits_strong() { Ok(cell) } else { Err(Decline::Handle) }
+        if cell.admits_strong() {
+            Ok(cell)
+        } else {
+            Err(Decline::Handle)
+        }
     }
 
     /// 3: a cell of this census admits the `Weak`, which is not empty.
@@ -62,7 +66,11 @@ impl<A: Allocator> Census<A> {
         let Some(cell) = Cell::of(self.store.table.get(ticket.place as usize)) else {
             return Err(Decline::Handle);
         };
-        if cell.admits_weak() { Ok(cell) } else { Err(Decline::Handle) }
+        if cell.admits_weak() {
+            Ok(cell)
+        } else {
+            Err(Decline::Handle)
+        }
     }
 
     /// 4: a strong handle is loose at `p`.
@@ -72,7 +80,11 @@ impl<A: Allocator> Census<A> {
         let Some(cell) = Cell::of(self.store.table.get(p as usize)) else {
             return Err(Decline::Loose);
         };
-        if cell.counts.loose_strong > 0 { Ok(cell) } else { Err(Decline::Loose) }
+        if cell.counts.loose_strong > 0 {
+            Ok(cell)
+        } else {
+            Err(Decline::Loose)
+        }
     }
 
     /// 4: a weak handle is loose at `p`.
@@ -82,7 +94,11 @@ impl<A: Allocator> Census<A> {
         let Some(cell) = Cell::of(self.store.table.get(p as usize)) else {
             return Err(Decline::Loose);
         };
-        if cell.counts.loose_weak > 0 { Ok(cell) } else { Err(Decline::Loose) }
+        if cell.counts.loose_weak > 0 {
+            Ok(cell)
+        } else {
+            Err(Decline::Loose)
+        }
     }
 
     /// 4: a strong handle is out at `p`.
@@ -92,7 +108,11 @@ impl<A: Allocator> Census<A> {
         let Some(cell) = Cell::of(self.store.table.get(p as usize)) else {
             return Err(Decline::Loose);
         };
-        if cell.counts.strong > 0 { Ok(cell) } else { Err(Decline::Loose) }
+        if cell.counts.strong > 0 {
+            Ok(cell)
+        } else {
+            Err(Decline::Loose)
+        }
     }
 
     /// 1 and 3, for an `Rc`.
@@ -104,7 +124,11 @@ impl<A: Allocator> Census<A> {
     }
 
     /// 1 and 3, for a `Weak` that is not empty.
-    pub(crate) fn admit_weak<E: Element>(&self, memory: &[E], ticket: Ticket) -> Result<Cell, Decline>
+    pub(crate) fn admit_weak<E: Element>(
+        &self,
+        memory: &[E],
+        ticket: Ticket,
+    ) -> Result<Cell, Decline>
         ensures { λ r. ⌜ Answers (wrong-memory (world (A·Allocator .meaning) (now (self .entry))) (now (memory .entry)) ∷ no-weak (world (A·Allocator .meaning) (now (self .entry))) (Some ticket) ∷ []) r (λ c. c .counts ≡ at (world (A·Allocator .meaning) (now (self .entry)) .rows) (ticket .place)) (Unit {0}) ⌝ }
     {
         self.check_memory(memory)?;
@@ -112,7 +136,12 @@ impl<A: Allocator> Census<A> {
     }
 
     /// 1, 2 and 3, for the release of an `Rc`.
-    pub(crate) fn check_release<E: Element>(&self, memory: &[E], list: &[E], ticket: Ticket) -> Result<(), Decline>
+    pub(crate) fn check_release<E: Element>(
+        &self,
+        memory: &[E],
+        list: &[E],
+        ticket: Ticket,
+    ) -> Result<(), Decline>
         ensures { λ r. ⌜ Answers (wrong-memory (world (A·Allocator .meaning) (now (self .entry))) (now (memory .entry)) ∷ short-list (world (A·Allocator .meaning) (now (self .entry))) (now (list .entry)) ∷ no-rc (world (A·Allocator .meaning) (now (self .entry))) ticket ∷ []) r (λ _. Unit {0}) (Unit {0}) ⌝ }
     {
         self.check_memory(memory)?;
@@ -122,7 +151,12 @@ impl<A: Allocator> Census<A> {
     }
 
     /// 1, 2 and 4, for the release of a loose strong handle.
-    pub(crate) fn check_decrement<E: Element>(&self, memory: &[E], list: &[E], place: u32) -> Result<Cell, Decline>
+    pub(crate) fn check_decrement<E: Element>(
+        &self,
+        memory: &[E],
+        list: &[E],
+        place: u32,
+    ) -> Result<Cell, Decline>
         ensures { λ r. ⌜ Answers (wrong-memory (world (A·Allocator .meaning) (now (self .entry))) (now (memory .entry)) ∷ short-list (world (A·Allocator .meaning) (now (self .entry))) (now (list .entry)) ∷ no-loose-strong (world (A·Allocator .meaning) (now (self .entry))) place ∷ []) r (λ c. c .counts ≡ at (world (A·Allocator .meaning) (now (self .entry)) .rows) place) (Unit {0}) ⌝ }
     {
         self.check_memory(memory)?;
@@ -131,7 +165,11 @@ impl<A: Allocator> Census<A> {
     }
 
     /// 1, 3, 5 and 8, for an element to be handed out: the element.
-    pub(crate) fn check_unwrap<E: Element>(&self, memory: &[E], ticket: Ticket) -> Result<E, Decline>
+    pub(crate) fn check_unwrap<E: Element>(
+        &self,
+        memory: &[E],
+        ticket: Ticket,
+    ) -> Result<E, Decline>
         ensures { λ r. ⌜ Answers (wrong-memory (world (A·Allocator .meaning) (now (self .entry))) (now (memory .entry)) ∷ no-rc (world (A·Allocator .meaning) (now (self .entry))) ticket ∷ past-memory (now (memory .entry)) (ticket .place) ∷ slice-cell (world (A·Allocator .meaning) (now (self .entry))) (ticket .place) ∷ not-sole (world (A·Allocator .meaning) (now (self .entry))) (ticket .place) ∷ []) r (λ x. take 1 (drop (ticket .place) (now (memory .entry))) ≡ x ∷ []) (Unit {0}) ⌝ }
     {
         let cell = self.admit_rc(memory, ticket)?;

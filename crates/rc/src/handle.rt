@@ -31,7 +31,10 @@ impl Drop for Rc {
     fn drop(self)
         requires { ⌜ self .spent ≡ true ⌝ }
     {
-        let Rc { ticket: _, spent: _ } = self;
+        let Rc {
+            ticket: _,
+            spent: _,
+        } = self;
     }
 }
 
@@ -39,7 +42,10 @@ impl Drop for Weak {
     fn drop(self)
         requires { ⌜ self .spent ≡ true ⌝ }
     {
-        let Weak { ticket: _, spent: _ } = self;
+        let Weak {
+            ticket: _,
+            spent: _,
+        } = self;
     }
 }
 
@@ -55,7 +61,10 @@ impl Rc {
         ensures ticket { λ r. ⌜ r .ticket ≡ ticket ⌝ }
         ensures unspent { λ r. ⌜ r .spent ≡ false ⌝ }
     {
-        Rc { ticket, spent: false }
+        Rc {
+            ticket,
+            spent: false,
+        }
     }
 
     pub(crate) fn spend(mut self) {
@@ -89,7 +98,10 @@ impl Weak {
         ensures ticket { λ r. ⌜ r .ticket ≡ ticket ⌝ }
         ensures unspent { λ r. ⌜ r .spent ≡ false ⌝ }
     {
-        Weak { ticket, spent: false }
+        Weak {
+            ticket,
+            spent: false,
+        }
     }
 
     pub(crate) fn spend(mut self) {

@@ -12,7 +12,6 @@ mod make_mut;
 mod numbers;
 mod part;
 mod raw;
-mod references;
 mod release;
 mod share;
 mod unwrap;

@@ -16,6 +16,10 @@ impl<A: Allocator> Census<A> {
     {
         self.check_memory(memory)?;
         let cell = self.check_rc(rc.ticket)?;
-        Ok(part(memory, rc.ticket.place as usize, usize::from(cell.counts.standing)))
+        Ok(part(
+            memory,
+            rc.ticket.place as usize,
+            usize::from(cell.counts.standing),
+        ))
     }
 }

@@ -6,14 +6,14 @@ use crate::census::Census;
 use crate::decline::Decline;
 use crate::handle::Rc;
 use crate::handle::Ticket;
-use crate::references::hold_all;
-use crate::references::lacks_some;
-use crate::references::references;
 use blocks::Allocator;
 use cells::Cell;
 use cells::Shape;
 use disposal::write_at;
 use element::Element;
+use references::hold_all;
+use references::lacks_some;
+use references::references_of;
 
 impl<A: Allocator> Census<A> {
     /// A block of `n` places, the only call of the allocator for one.
@@ -31,7 +31,7 @@ impl<A: Allocator> Census<A> {
         ensures { λ r. ⌜ New (E·Element .refs) (world (A·Allocator .meaning) (now (self .entry))) (now (memory .entry)) x r (world (A·Allocator .meaning) (now (self .exit))) (now (memory .exit)) ⌝ }
     {
         self.check_memory(memory)?;
-        let rs = references(&x);
+        let rs = references_of(&x);
         if lacks_some(&self.store.table, &rs) {
             return Err(Decline::References);
         }

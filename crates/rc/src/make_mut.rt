@@ -8,14 +8,14 @@ ghost use Rattle.rc.specs.Worlds.{world};
 use crate::census::Census;
 use crate::decline::Decline;
 use crate::handle::Rc;
-use crate::references::lower;
-use crate::references::lower_all;
-use crate::references::raise_all;
 use blocks::Allocator;
 use cells::Cell;
 use disposal::write_at;
 use element::Element;
 use element::Reference;
+use references::lower;
+use references::lower_all;
+use references::raise_all;
 
 /// Copies one element, if there are such places.
 fn copy_one<E: Element>(memory: &mut [E], from: usize, to: usize)
@@ -32,7 +32,11 @@ fn copy_within<E: Element>(memory: &mut [E], from: u32, to: u32, n: u16)
     ensures { λ _. ⌜ now (memory .exit) ≡ copied (now (memory .entry)) from to n ⌝ }
 {
     for i in 0..n {
-        copy_one(memory, from as usize + usize::from(i), to as usize + usize::from(i));
+        copy_one(
+            memory,
+            from as usize + usize::from(i),
+            to as usize + usize::from(i),
+        );
     }
 }
 
@@ -49,7 +53,12 @@ impl<A: Allocator> Census<A> {
         let q = match self.allocate(counts.size) {
             Ok(q) => q,
             Err(why) => {
-                lower_all(&mut self.store.table, memory, p, 4 * u32::from(counts.standing));
+                lower_all(
+                    &mut self.store.table,
+                    memory,
+                    p,
+                    4 * u32::from(counts.standing),
+                );
                 return Err(why);
             }
         };

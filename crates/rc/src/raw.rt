@@ -52,7 +52,11 @@ impl<A: Allocator> Census<A> {
     }
 
     /// Makes the handle loose, and answers its place; an empty one becomes the empty reference.
-    pub fn weak_into_raw<E: Element>(&mut self, memory: &[E], weak: Weak) -> Result<Option<u32>, Refused<Weak>>
+    pub fn weak_into_raw<E: Element>(
+        &mut self,
+        memory: &[E],
+        weak: Weak,
+    ) -> Result<Option<u32>, Refused<Weak>>
         ensures { λ r. ⌜ Weak-into-raw (world (A·Allocator .meaning) (now (self .entry))) (now (memory .entry)) weak r (world (A·Allocator .meaning) (now (self .exit))) ⌝ }
     {
         if let Err(why) = self.check_memory(memory) {
@@ -78,7 +82,11 @@ impl<A: Allocator> Census<A> {
     }
 
     /// The `Weak` of a loose weak handle; an empty one of the empty reference.
-    pub fn weak_from_raw<E: Element>(&mut self, memory: &[E], place: Option<u32>) -> Result<Weak, Decline>
+    pub fn weak_from_raw<E: Element>(
+        &mut self,
+        memory: &[E],
+        place: Option<u32>,
+    ) -> Result<Weak, Decline>
         ensures { λ r. ⌜ Weak-from-raw (world (A·Allocator .meaning) (now (self .entry))) (now (memory .entry)) place r (world (A·Allocator .meaning) (now (self .exit))) ⌝ }
     {
         self.check_memory(memory)?;
@@ -97,7 +105,11 @@ impl<A: Allocator> Census<A> {
     }
 
     /// Gives one more strong handle, a loose one, for a cell that has one.
-    pub fn increment_strong_count<E: Element>(&mut self, memory: &[E], place: u32) -> Result<(), Decline>
+    pub fn increment_strong_count<E: Element>(
+        &mut self,
+        memory: &[E],
+        place: u32,
+    ) -> Result<(), Decline>
         ensures { λ r. ⌜ Increment (world (A·Allocator .meaning) (now (self .entry))) (now (memory .entry)) place r (world (A·Allocator .meaning) (now (self .exit))) ⌝ }
     {
         self.check_memory(memory)?;

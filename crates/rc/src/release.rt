@@ -15,7 +15,12 @@ use element::Reference;
 impl<A: Allocator> Census<A> {
     /// Lets a strong handle go. With the last one the elements of the cell are disposed of: each is
     /// written to the list, and its references are released.
-    pub fn release<E: Element>(&mut self, memory: &[E], list: &mut [E], rc: Rc) -> Result<Receipt, Refused<Rc>>
+    pub fn release<E: Element>(
+        &mut self,
+        memory: &[E],
+        list: &mut [E],
+        rc: Rc,
+    ) -> Result<Receipt, Refused<Rc>>
         ensures { λ r. ⌜ Releases-rc (E·Element .refs) (world (A·Allocator .meaning) (now (self .entry))) (now (memory .entry)) (now (list .entry)) rc r (world (A·Allocator .meaning) (now (self .exit))) (now (list .exit)) ⌝ }
     {
         let ticket = rc.ticket;
@@ -23,11 +28,19 @@ impl<A: Allocator> Census<A> {
             return Err(Refused { handle: rc, why });
         }
         rc.spend();
-        Ok(self.store.release(memory, list, Reference::Strong(ticket.place)))
+        Ok(
+            self.store
+                .release(memory, list, Reference::Strong(ticket.place)),
+        )
     }
 
     /// Lets a loose strong handle go, as `release` does.
-    pub fn decrement_strong_count<E: Element>(&mut self, memory: &[E], list: &mut [E], place: u32) -> Result<Receipt, Decline>
+    pub fn decrement_strong_count<E: Element>(
+        &mut self,
+        memory: &[E],
+        list: &mut [E],
+        place: u32,
+    ) -> Result<Receipt, Decline>
         ensures { λ r. ⌜ Decrement (E·Element .refs) (world (A·Allocator .meaning) (now (self .entry))) (now (memory .entry)) (now (list .entry)) place r (world (A·Allocator .meaning) (now (self .exit))) (now (list .exit)) ⌝ }
     {
         let cell = self.check_decrement(memory, list, place)?;
@@ -39,7 +52,11 @@ impl<A: Allocator> Census<A> {
     }
 
     /// Lets a weak handle go. With the last one the block of the cell goes back.
-    pub fn release_weak<E: Element>(&mut self, memory: &[E], weak: Weak) -> Result<Receipt, Refused<Weak>>
+    pub fn release_weak<E: Element>(
+        &mut self,
+        memory: &[E],
+        weak: Weak,
+    ) -> Result<Receipt, Refused<Weak>>
         ensures { λ r. ⌜ Releases-weak (world (A·Allocator .meaning) (now (self .entry))) (now (memory .entry)) weak r (world (A·Allocator .meaning) (now (self .exit))) ⌝ }
     {
         if let Err(why) = self.check_memory(memory) {

@@ -5,10 +5,10 @@ ghost use Rattle.rc.specs.Worlds.{world};
 use crate::census::Census;
 use crate::decline::Refused;
 use crate::handle::Rc;
-use crate::references::loosen_all;
-use crate::references::references;
 use blocks::Allocator;
 use element::Element;
+use references::loosen_all;
+use references::references_of;
 
 impl<A: Allocator> Census<A> {
     /// Hands out the element of a single cell that no other strong handle has. Its references become
@@ -22,7 +22,7 @@ impl<A: Allocator> Census<A> {
             Err(why) => return Err(Refused { handle: rc, why }),
         };
         rc.spend();
-        loosen_all(&mut self.store.table, &references(&x));
+        loosen_all(&mut self.store.table, &references_of(&x));
         let _ = self.store.retire(ticket.place as usize);
         Ok(x)
     }

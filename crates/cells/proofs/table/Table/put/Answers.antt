@@ -44,8 +44,7 @@ ghost-self c =
     let m : p < length (counts-of rows) = omega (arith, counts-length rows) in
     let row = c .args .row in
     let e = counts-set rows p (c .rewrite-old .last .row) ∙ ap (λ (r : Row). set (counts-of rows) p (r .counts)) (c .rewrite-old .ensures .after) in
-    let sum = standing-set (counts-of rows) p (row .counts) m in
-    (
+    let sum = standing-set (counts-of rows) p (row .counts) m in (
       length-set rows p _ ∙ full,
       (
         ap small e ∙ small-set (counts-of rows) p (row .counts) (c .args .self .now .few) (search needs),

@@ -24,7 +24,7 @@ returns-in-Break-cell g c =
     let memory = c .args .memory .now in
     rw (p .1, p .2) (
       stopped (wrong-memory w memory ∷ no-rc w t ∷ []) (past-memory memory (t .place) ∷ slice-cell w (t .place) ∷ not-sole w (t .place) ∷ []) (c .in-Break-cell .field-0 .0)
-      (c .in-Break-cell .ensures tt .0),
+          (c .in-Break-cell .ensures tt .0),
       tt,
     )
 
@@ -41,11 +41,10 @@ returns g c =
     let x = c .index-memory-place .result in
     let told = c .in-Continue-cell .ensures tt in
     let same = sym (told .1) in
-    let lt : p < length memory = c .if-place-memory .left in
-    (
+    let lt : p < length memory = c .if-place-memory .left in (
       past-two (wrong-memory w memory .0) (no-rc w t .0) 1 3 (past-memory memory p ∷ slice-cell w p ∷ not-sole w p ∷ []) (omega arith) (omega arith) (told .0)
-      ∙ past _ 3 (slice-cell w p ∷ not-sole w p ∷ []) (lt-leb (length memory) p lt)
-      ∙ past _ 5 (not-sole w p ∷ []) (ap (λ (k : Counts). is-slice (k .shape)) same ∙ not-slice (c .in-Continue-cell .cell .counts .shape) (c .if-eq .ensures tt))
-      ∙ past _ 8 [] (ap (λ (k : Counts). not (eqb (k .strong) 1)) same ∙ ap not (eq-eqb (c .in-Continue-cell .cell .counts .strong) 1 (c .if-cell-ne1 .left))),
+          ∙ past _ 3 (slice-cell w p ∷ not-sole w p ∷ []) (lt-leb (length memory) p lt)
+          ∙ past _ 5 (not-sole w p ∷ []) (ap (λ (k : Counts). is-slice (k .shape)) same ∙ not-slice (c .in-Continue-cell .cell .counts .shape) (c .if-eq .ensures tt))
+          ∙ past _ 8 [] (ap (λ (k : Counts). not (eqb (k .strong) 1)) same ∙ ap not (eq-eqb (c .in-Continue-cell .cell .counts .strong) 1 (c .if-cell-ne1 .left))),
       ap (take 1) (drop-more memory p x lt) ∙ ap (λ z. z ∷ []) (sym (c .index-memory-place .is)),
     )

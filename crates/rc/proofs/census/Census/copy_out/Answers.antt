@@ -9,7 +9,7 @@ use Rattle.cells.specs.Rows.{at}
 use Rattle.cells.specs.declared.row.Counts.{Counts}
 use Rattle.rc.specs.Calls.{unfit}
 use Rattle.rc.specs.Ends.{copied}
-use Rattle.rc.specs.References.{nth, raised-upto, overflows}
+use Rattle.references.specs.References.{nth, raised-upto, overflows}
 use Rattle.rc.specs.Worlds.{World, world, with-rows}
 use Rattle.rc.proofs.Chains.{past}
 use Rattle.rc.proofs.census.Census.copy_out.Needs as need
@@ -24,8 +24,7 @@ returns g c =
     let up = c .if-not-raise-all .ensures tt in
     let f = nth (g .E·Element .refs) (c .args .memory .now) p in
     let block = subst (λ (n : ℕ). HandsOut (w .meaning) n q (between .meaning)) (ap (λ (k : Counts). k .size) (c .pre)) (told .0) in
-    let safe : overflows f (4 * at (w .rows) p .standing) (w .rows) ≡ false = subst (λ (k : Counts). overflows f (4 * k .standing) (w .rows) ≡ false) (c .pre) (up .0) in
-    (
+    let safe : overflows f (4 * at (w .rows) p .standing) (w .rows) ≡ false = subst (λ (k : Counts). overflows f (4 * k .standing) (w .rows) ≡ false) (c .pre) (up .0) in (
       past _ 9 (unfit w (at (w .rows) p .size) ∷ []) safe ∙ past _ 10 [] (ap not (block .fitted)),
       record {
         between = between;

@@ -40,9 +40,9 @@ returns-in-Break-cell g c =
     let d = c .in-Break-cell .field-0 .0 in
     let e = c .in-Break-cell .ensures tt .0 in
     rw (r .1, r .2) (
-      both (ltb 1 (at (w .rows) p .strong)) _ _
-      (stopped admit (full-copy (g .E·Element .refs) w memory p ∷ unfit w (at (w .rows) p .size) ∷ []) d e, (refl, refl, refl))
-      (both (ltb 1 (at (w .rows) p .weak)) _ _ (stopped admit (unfit w (at (w .rows) p .size) ∷ []) d e, (refl, refl, refl)) (e, (refl, refl, refl)))
+    both (ltb 1 (at (w .rows) p .strong)) _ _
+    (stopped admit (full-copy (g .E·Element .refs) w memory p ∷ unfit w (at (w .rows) p .size) ∷ []) d e, (refl, refl, refl))
+    (both (ltb 1 (at (w .rows) p .weak)) _ _ (stopped admit (unfit w (at (w .rows) p .size) ∷ []) d e, (refl, refl, refl)) (e, (refl, refl, refl)))
     )
 
 pub returns-in-Continue-place : need.returns-in-Continue-place

@@ -19,8 +19,7 @@ returns g c =
     let p = c .args .p in
     let q = c .in-Continue-q .q in
     let told = c .in-Continue-q .ensures tt in
-    let block = subst (λ (n : ℕ). HandsOut (w .meaning) n q (between .meaning)) (ap (λ (k : Counts). k .size) (c .pre)) (told .0) in
-    (
+    let block = subst (λ (n : ℕ). HandsOut (w .meaning) n q (between .meaning)) (ap (λ (k : Counts). k .size) (c .pre)) (told .0) in (
       past _ 10 [] (ap not (block .fitted)),
       record {
         between = between;

@@ -10,12 +10,12 @@ use Rattle.cells.specs.declared.row.Counts.{Counts}
 use Rattle.cells.specs.declared.row.Shape.the-variants.{Single}
 use Rattle.rc.specs.Calls.{lacking-references, unfit, Made}
 use Rattle.rc.specs.Checks.{wrong-memory}
-use Rattle.rc.specs.References.{some-lacking, each, held}
+use Rattle.references.specs.References.{some-lacking, each, held}
 use Rattle.rc.specs.Tickets.{ticket-of}
 use Rattle.rc.specs.Worlds.{world}
 use Rattle.rc.specs.declared.handle.Ticket.{Ticket}
 use Rattle.rc.proofs.Chains.{passed, past, here}
-use Rattle.rc.proofs.Naming.{lacking-all-padded, each-padded}
+use Rattle.references.proofs.Naming.{lacking-all-padded, each-padded}
 use Rattle.rc.proofs.census.Census.new.Needs as need
 
 pub returns-then-lacks-some : need.returns-then-lacks-some
@@ -25,7 +25,7 @@ returns-then-lacks-some g c =
     let m = wrong-memory w (c .args .memory .now) in
     let few = g .E·Element·met .few (c .args .x) in
     let lack : some-lacking (w .rows) rs rs ≡ true =
-    sym (lacking-all-padded (w .rows) rs few) ∙ sym (c .lacks-some .ensures ∙ ap₂ (some-lacking (w .rows)) (c .references-rs .ensures) (c .references-rs .ensures)) ∙ c .if-lacks-some .taken in
+    sym (lacking-all-padded (w .rows) rs few) ∙ sym (c .lacks-some .ensures ∙ ap₂ (some-lacking (w .rows)) (c .references-of-rs .ensures) (c .references-of-rs .ensures)) ∙ c .if-lacks-some .taken in
     (past (m .0) 1 (lacking-references w rs ∷ unfit w 1 ∷ []) (passed (m .0) 1 (c .in-Continue-check-memory .ensures tt .0) (omega arith)) ∙ here _ 7 (unfit w 1 ∷ []) lack, (refl, refl))
 
 pub returns-in-Break-place : need.returns-in-Break-place
@@ -36,11 +36,11 @@ returns-in-Break-place g c =
     let m = wrong-memory w (c .args .memory .now) in
     let few = g .E·Element·met .few (c .args .x) in
     let fine : some-lacking (w .rows) rs rs ≡ false =
-    sym (lacking-all-padded (w .rows) rs few) ∙ sym (c .lacks-some .ensures ∙ ap₂ (some-lacking (w .rows)) (c .references-rs .ensures) (c .references-rs .ensures)) ∙ c .if-lacks-some .left in
+    sym (lacking-all-padded (w .rows) rs few) ∙ sym (c .lacks-some .ensures ∙ ap₂ (some-lacking (w .rows)) (c .references-of-rs .ensures) (c .references-of-rs .ensures)) ∙ c .if-lacks-some .left in
     let told = c .in-Break-place .ensures tt in
     rw (p .1, p .2) (
       past (m .0) 1 (lacking-references w rs ∷ unfit w 1 ∷ []) (passed (m .0) 1 (c .in-Continue-check-memory .ensures tt .0) (omega arith))
-      ∙ past _ 7 (unfit w 1 ∷ []) fine ∙ here _ 10 [] (ap not (told .1)) ∙ sym (told .0),
+          ∙ past _ 7 (unfit w 1 ∷ []) fine ∙ here _ 10 [] (ap not (told .1)) ∙ sym (told .0),
       (told .2, refl),
     )
 
@@ -52,7 +52,7 @@ returns g c =
     let m = wrong-memory w (c .args .memory .now) in
     let few = g .E·Element·met .few (c .args .x) in
     let fine : some-lacking (w .rows) rs rs ≡ false =
-    sym (lacking-all-padded (w .rows) rs few) ∙ sym (c .lacks-some .ensures ∙ ap₂ (some-lacking (w .rows)) (c .references-rs .ensures) (c .references-rs .ensures)) ∙ c .if-lacks-some .left in
+    sym (lacking-all-padded (w .rows) rs few) ∙ sym (c .lacks-some .ensures ∙ ap₂ (some-lacking (w .rows)) (c .references-of-rs .ensures) (c .references-of-rs .ensures)) ∙ c .if-lacks-some .left in
     let told = c .in-Continue-place .ensures tt in
     let p = c .in-Continue-place .place in
     let at-p : c .of .result .ticket .place ≡ p = ap (λ (t : Ticket). t .place) (c .of .ensures .ticket) in
@@ -63,12 +63,11 @@ returns g c =
       table =
           c .put .ensures .counts
           ∙ ap₂ (λ (ks : List Counts) (k : Counts). set ks p k)
-          (c .hold-all .ensures ∙ ap₂ (each held) (told .2) (c .references-rs .ensures) ∙ each-padded held (λ rows. refl) (w .rows) rs few)
+          (c .hold-all .ensures ∙ ap₂ (each held) (told .2) (c .references-of-rs .ensures) ∙ each-padded held (λ rows. refl) (w .rows) rs few)
           (c .into-row .ensures .counts ∙ c .shared-cell .ensures .counts);
-    } in
-    (
+    } in (
       past (m .0) 1 (lacking-references w rs ∷ unfit w 1 ∷ []) (passed (m .0) 1 (c .in-Continue-check-memory .ensures tt .0) (omega arith))
-      ∙ past _ 7 (unfit w 1 ∷ []) fine ∙ past _ 10 [] (ap not (told .0 .fitted)),
+          ∙ past _ 7 (unfit w 1 ∷ []) fine ∙ past _ 10 [] (ap not (told .0 .fitted)),
       (
         (c .of .ensures .ticket ∙ ap₂ ticket-of (told .1) (sym at-p), c .of .ensures .unspent),
         subst (λ (q : ℕ). Made w 1 (each held (w .rows) rs) (shared Single 1 1) q v) (sym at-p) made,

@@ -1,0 +1,4 @@
+pub mod Commands
+pub mod Meanings
+pub mod Runs
+pub mod Texts

@@ -1,6 +1,6 @@
 -- A loose handle that is held, used and made loose again at one place.
-use mathlib.Core.Path.{_≡_, refl, sym, ap, ap₂, subst, _∙_}
-use mathlib.Core.Bool.{Bool, true, false, cond, not, _&&_}
+use mathlib.Core.Path.{_≡_, sym, ap, ap₂, subst, _∙_}
+use mathlib.Core.Bool.{Bool, true, false, not, _&&_}
 use mathlib.Core.List.{List, [], _∷_}
 use Prim.Native.Nat.{ℕ, _+_, _-_, _<_}
 use native.Mathlib.Omega.{arith}
@@ -11,7 +11,7 @@ use Rattle.std.specs.declared.option.Option.the-variants.{Some, None}
 use Rattle.std.proofs.shelf.Lists.{getD-set-same, set-set}
 use Rattle.std.proofs.shelf.Tests.{and-parts, not-false, ltb-true}
 use Rattle.blocks.specs.Meaning.{Meaning, HandsOut}
-use Rattle.cells.specs.Counts.{none, shared, is-cell, admits-strong, admits-weak, with-loose-strong, with-loose-weak, with-strong, with-weak}
+use Rattle.cells.specs.Counts.{none, shared, is-cell, with-loose-strong, with-loose-weak}
 use Rattle.cells.specs.Rows.{at}
 use Rattle.cells.specs.declared.row.Counts.{Counts}
 use Rattle.cells.specs.declared.row.Shape.the-variants.{Single}

@@ -1,9 +1,8 @@
 -- What `make_mut` answers of a held handle, by cases, and that the handle is admitted after it.
-use mathlib.Core.Path.{_≡_, refl, sym, ap, ap₂, subst, _∙_}
-use mathlib.Core.Bool.{Bool, true, false, cond, _&&_}
+use mathlib.Core.Path.{_≡_, sym, ap, subst, _∙_}
+use mathlib.Core.Bool.{Bool, true, false, cond}
 use mathlib.Core.List.{List, [], _∷_}
-use Prim.Native.Nat.{ℕ, _<_}
-use native.Mathlib.Omega.{arith}
+use Prim.Native.Nat.{ℕ}
 use lib.Dec.{ltb}
 use Rattle.std.specs.Orderings.{When}
 use Rattle.std.specs.declared.result.Result.{Result}
@@ -22,7 +21,7 @@ use Rattle.rc.specs.Worlds.{World}
 use Rattle.rc.specs.declared.decline.Decline.{Decline}
 use Rattle.rc.specs.declared.handle.Rc.{Rc}
 use Rattle.rc.specs.declared.handle.Ticket.{Ticket}
-use Rattle.rc.proofs.Admitted.{Rc-stands, rc-stands, rc-admitted}
+use Rattle.rc.proofs.Admitted.{rc-stands, rc-admitted}
 use Rattle.rc.proofs.Fresh.{Ready, Fresh, copied-fresh, moved-fresh}
 use Rattle.rc.proofs.Housed.{gathered}
 use Rattle.drive.specs.Commands.{own-checks, Owns}

@@ -1,7 +1,7 @@
 -- What each command answers, and the world that it leaves: every handle is loose before and after.
 use mathlib.Core.Path.{_≡_}
-use mathlib.Core.Bool.{Bool, true, false, cond}
-use mathlib.Core.List.{List, [], _∷_, _++_}
+use mathlib.Core.Bool.{Bool, cond}
+use mathlib.Core.List.{List, [], _∷_}
 use Prim.Native.Nat.{ℕ, _+_, _<_}
 use lib.Dec.{ltb}
 use lib.ListN.{set}
@@ -86,7 +86,7 @@ Decrements refs w memory list p r v list′ =
     (λ a. (t : Receipt) × Says (t .listed) p a × Goes refs memory p (held-strong w p) list t v list′)
     ((v ≡ w) × (list′ ≡ list))
 
--- `u`: one strong handle more where one is left-with, and nothing where none is
+-- `u`: one strong handle more where one is left, and nothing where none is
 abbrev pub Upgraded-to : World → ℕ → Option ℕ → World → Type 0
 Upgraded-to w p None v = (at (w .rows) p .strong ≡ 0) × (v ≡ w)
 Upgraded-to w p (Some n) v = (0 < at (w .rows) p .strong) × (n ≡ p) × (v ≡ with-row w p (one-strong (at (w .rows) p)))

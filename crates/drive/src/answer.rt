@@ -5,14 +5,14 @@ ghost use Rattle.std.specs.declared.option.Option.the-variants.{Some, None};
 
 /// A number, or none where no handle was given, and the place whose counts are shown beside it.
 #[derive(Clone, Copy)]
-pub struct Answer {
+pub(crate) struct Answer {
     pub value: Option<usize>,
     pub place: u32,
 }
 
 impl Answer {
     /// The number `value`, with the counts of `place`.
-    pub fn of(value: usize, place: u32) -> Answer
+    pub(crate) fn of(value: usize, place: u32) -> Answer
         ensures value { λ r. ⌜ r .value ≡ Some value ⌝ }
         ensures place { λ r. ⌜ r .place ≡ place ⌝ }
     {
@@ -23,7 +23,7 @@ impl Answer {
     }
 
     /// No number, with the counts of `place`.
-    pub fn none(place: u32) -> Answer
+    pub(crate) fn none(place: u32) -> Answer
         ensures value { λ r. ⌜ r .value ≡ None ⌝ }
         ensures place { λ r. ⌜ r .place ≡ place ⌝ }
     {

@@ -9,7 +9,7 @@ use element::Note;
 use rc::Census;
 
 /// How many places the memory has.
-pub const PLACES: usize = 8;
+pub(crate) const PLACES: usize = 8;
 
 /// A census over eight places, whose handles are all loose between lines.
 pub struct Drive {

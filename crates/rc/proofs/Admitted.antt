@@ -1,17 +1,17 @@
 -- Handles that the census has just given or kept are admitted.
 use mathlib.Core.Path.{_≡_, refl, sym, ap, subst, _∙_}
-use mathlib.Core.Bool.{Bool, true, false, cond, not, _&&_, _||_}
+use mathlib.Core.Bool.{Bool, true, false, cond, not, _&&_}
 use mathlib.Core.List.{List, [], _∷_}
-use mathlib.Core.Logic.{⊎-elim, _≢_}
-use Prim.Native.Nat.{ℕ, zero, suc, _+_, _-_, _≤_, _<_}
+use mathlib.Core.Logic.{⊎-elim}
+use Prim.Native.Nat.{ℕ, _+_, _-_, _≤_, _<_}
 use native.Mathlib.Omega.{arith}
 use lib.Dec.{eqb, ltb, leb}
-use lib.ListN.{length, getD, set, drop}
+use lib.ListN.{length}
 use Rattle.std.specs.declared.option.Option.{Option}
-use Rattle.std.specs.declared.option.Option.the-variants.{Some, None}
-use Rattle.std.proofs.shelf.Lists.{length-set, getD-set-same, getD-set-other, getD-past, set-set, set-getD}
-use Rattle.std.proofs.shelf.Tests.{cases-bool, cases-lt, true≢false, and-parts, and-from, or-parts, or-from, not-false, not-from-true, cond-true, ltb-true, leb-true, lt-ltb, le-leb, eqb-true, eq-eqb}
-use Rattle.cells.specs.Counts.{owns, owner, taken, none, is-cell, admits-strong, admits-weak, with-strong, with-weak, with-loose-strong, with-loose-weak}
+use Rattle.std.specs.declared.option.Option.the-variants.{Some}
+use Rattle.std.proofs.shelf.Lists.{getD-set-same, getD-past, set-set, set-getD}
+use Rattle.std.proofs.shelf.Tests.{cases-lt, true≢false, and-parts, and-from, or-parts, or-from, not-false, not-from-true, ltb-true, leb-true, lt-ltb, le-leb, eq-eqb}
+use Rattle.cells.specs.Counts.{owner, taken, none, is-cell, admits-strong, admits-weak, with-strong, with-weak, with-loose-strong, with-loose-weak}
 use Rattle.cells.specs.Rows.{at}
 use Rattle.cells.specs.declared.row.Counts.{Counts}
 use Rattle.rc.specs.Admits.{Admits-rc, Admits-weak}

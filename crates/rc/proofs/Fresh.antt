@@ -1,21 +1,18 @@
 -- New cells: their handles are admitted, and each cell keeps a block that is out.
 use mathlib.Core.Path.{_≡_, refl, sym, ap, ap₂, subst, _∙_}
-use mathlib.Core.Bool.{Bool, true, false, cond, not, _&&_}
+use mathlib.Core.Bool.{Bool, true, false, cond, not}
 use mathlib.Core.List.{List, [], _∷_}
-use mathlib.Core.Logic.{⊎-elim, _≢_}
-use Prim.Native.Nat.{ℕ, zero, suc, _+_, _-_, _*_, _≤_, _<_}
+use mathlib.Core.Logic.{_≢_}
+use Prim.Native.Nat.{ℕ, zero, suc, _+_, _*_, _≤_, _<_}
 use native.Mathlib.Omega.{arith}
 use lib.Dec.{eqb, ltb}
 use lib.ListN.{length, set, drop}
-use Rattle.std.specs.Orderings.{When}
-use Rattle.std.specs.declared.result.Result.{Result}
-use Rattle.std.specs.declared.result.Result.the-variants.{Ok, Err}
+use Rattle.std.specs.declared.result.Result.the-variants.{Ok}
 use Rattle.std.proofs.shelf.Lists.{length-set, getD-set-same, getD-set-other}
-use Rattle.std.proofs.shelf.Tests.{and-parts}
 use Rattle.blocks.specs.Blocks.{block, insert}
-use Rattle.blocks.specs.Meaning.{Meaning, HandsOut, with-out}
+use Rattle.blocks.specs.Meaning.{Meaning}
 use Rattle.blocks.specs.declared.block.Block.{Block}
-use Rattle.cells.specs.Counts.{none, taken, is-cell, admits-strong, shared, ownerless}
+use Rattle.cells.specs.Counts.{none, is-cell, admits-strong, shared, ownerless}
 use Rattle.cells.specs.Rows.{at}
 use Rattle.cells.proofs.Rows.{counts-length}
 use Rattle.cells.specs.declared.row.Counts.{Counts}
@@ -25,18 +22,14 @@ use Rattle.disposal.specs.Books.{Books, none-yet, sole, left-with, returned, cl
 use Rattle.disposal.specs.Books as booking
 use Rattle.element.specs.declared.reference.Reference.{Reference}
 use Rattle.element.specs.declared.reference.Reference.the-variants.{Empty, Strong, Weak}
-use Rattle.rc.specs.Admits.{Admits-rc}
 use Rattle.rc.specs.Calls.{Made, New, lacking-references, unfit}
 use Rattle.rc.specs.Checks.{wrong-memory}
-use Rattle.rc.specs.Ends.{Copied, Moved, Make-mut, put-first, copied}
-use Rattle.references.specs.References.{each, held, raised, lowered, raised-upto, nth}
+use Rattle.rc.specs.Ends.{Copied, Moved, put-first, copied}
+use Rattle.references.specs.References.{each, held, raised, raised-upto, nth}
 use Rattle.rc.specs.Housed.{All-housed}
-use Rattle.rc.specs.Worlds.{World, world, books, with-rows, after}
+use Rattle.rc.specs.Worlds.{World, world, books, after}
 use Rattle.rc.specs.declared.census.Census.{Census}
-use Rattle.rc.specs.declared.decline.Decline.{Decline}
 use Rattle.rc.specs.declared.handle.Rc.{Rc}
-use Rattle.rc.specs.declared.handle.Ticket.{Ticket}
-use Rattle.rc.proofs.Admitted.{rc-admitted, rc-stands}
 use Rattle.rc.proofs.Chains.{head-passed}
 use Rattle.rc.proofs.Housed.{Housed, each-housed, held-housed, spread, made-housed, closed-housed, lowered-housed, upto-housed, choose, home, clear-apart, cell-taken}
 

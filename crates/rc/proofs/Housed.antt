@@ -1,15 +1,15 @@
 -- Cells whose blocks are out stay so, and a new cell stands apart from them.
 use mathlib.Core.Path.{_≡_, refl, sym, ap, subst, _∙_}
-use mathlib.Core.Bool.{Bool, true, false, cond, not, _&&_, _||_}
+use mathlib.Core.Bool.{Bool, true, false, cond, not, _||_}
 use mathlib.Core.List.{List, [], _∷_}
-use mathlib.Core.Logic.{_⊎_, inl, inr, ⊎-elim, _≢_}
+use mathlib.Core.Logic.{⊎-elim, _≢_}
 use Prim.Native.Nat.{ℕ, zero, suc, _+_, _-_, _<_}
-use native.Mathlib.Nat.{add-zero, zero-add, add-suc, suc-add}
+use native.Mathlib.Nat.{add-zero, zero-add}
 use native.Mathlib.Omega.{arith}
 use lib.Dec.{eqb, ltb, leb}
-use lib.ListN.{length, getD, set, replicate}
+use lib.ListN.{length, set, replicate}
 use Rattle.std.proofs.shelf.Lists.{getD-set-same, getD-set-other, getD-past, set-past}
-use Rattle.std.proofs.shelf.Tests.{cases-bool, cases-lt, cases-eq, both-ways, true≢false, false≢true, and-parts, and-from, or-cases, or-left, or-right, cond-true, cond-false, eqb-true, eq-eqb, leb-true, ltb-true, lt-ltb}
+use Rattle.std.proofs.shelf.Tests.{cases-bool, cases-lt, cases-eq, true≢false, false≢true, and-parts, and-from, or-cases, or-left, or-right, cond-true, cond-false, eqb-true, eq-eqb, leb-true, ltb-true, lt-ltb}
 use Rattle.blocks.specs.Blocks.{block, same, member, insert, remove, clear}
 use Rattle.blocks.specs.declared.block.Block.{Block}
 use Rattle.cells.specs.Counts.{none, taken, is-cell, admits-strong, admits-weak, with-weak, last-owner, dying, ownerless}

@@ -1,16 +1,14 @@
 use mathlib.Core.List.{[], _∷_}
-use mathlib.Core.Path.{sym, ap, subst, _∙_}
-use Prim.Native.Nat.{ℕ}
+use mathlib.Core.Path.{subst}
 use Rattle.std.specs.declared.option.Option.{Option}
 use Rattle.std.specs.declared.option.Option.the-variants.{Some}
 use Rattle.cells.specs.Rows.{at}
-use Rattle.disposal.specs.Books.{none-yet, weak-released}
 use Rattle.rc.specs.Calls.{held-weak}
 use Rattle.rc.specs.Checks.{first, wrong-memory, no-weak}
 use Rattle.rc.specs.Ends.{Weak-goes}
 use Rattle.rc.specs.Housed.{All-housed}
 use Rattle.rc.specs.Tickets.{place-of}
-use Rattle.rc.specs.Worlds.{World, world, books}
+use Rattle.rc.specs.Worlds.{World, world}
 use Rattle.rc.specs.declared.handle.Ticket.{Ticket}
 use Rattle.rc.proofs.Admitted.{hold-weak, unrefused}
 use Rattle.rc.proofs.Housed.{row-kept, weak-kept, spread}

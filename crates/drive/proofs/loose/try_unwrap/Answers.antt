@@ -1,6 +1,6 @@
 use mathlib.Core.Bool.{not}
 use mathlib.Core.List.{List, [], _∷_}
-use mathlib.Core.Path.{_≡_, sym, ap, ap₂, subst, _∙_}
+use mathlib.Core.Path.{sym, ap₂, subst, _∙_}
 use Prim.Native.Nat.{ℕ}
 use lib.Dec.{eqb, leb}
 use lib.ListN.{length}
@@ -10,13 +10,12 @@ use Rattle.cells.specs.declared.row.Counts.{Counts}
 use Rattle.element.specs.declared.note.Note.{Note}
 use Rattle.element.specs.declared.reference.Reference.{Reference}
 use Rattle.rc.specs.Admits.{Admits-rc}
-use Rattle.rc.specs.Calls.{held-strong, loosened-strong}
+use Rattle.rc.specs.Calls.{loosened-strong}
 use Rattle.rc.specs.Checks.{first, wrong-memory, no-loose-strong, past-memory, is-slice, slice-cell, not-sole}
 use Rattle.rc.specs.Ends.{Unwrapped}
 use Rattle.rc.specs.Housed.{All-housed}
 use Rattle.rc.specs.Worlds.{World, world}
 use Rattle.rc.specs.declared.handle.Rc.{Rc}
-use Rattle.rc.specs.declared.handle.Ticket.{Ticket}
 use Rattle.rc.proofs.Admitted.{hold}
 use Rattle.rc.proofs.Chains.{stopped}
 use Rattle.rc.proofs.Housed.{row-kept, unwrapped-kept, spread}

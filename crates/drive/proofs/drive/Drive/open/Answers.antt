@@ -1,13 +1,11 @@
 use mathlib.Core.List.{[]}
-use mathlib.Core.Path.{_≡_, refl, sym, ap, ap₂, subst, _∙_}
+use mathlib.Core.Path.{refl, sym, ap, ap₂, subst, _∙_}
 use lib.ListN.{replicate}
 use Rattle.blocks.specs.Kinds.{first-fit-with}
-use Rattle.blocks.specs.Meaning.{Meaning}
 use Rattle.cells.specs.Counts.{none}
 use Rattle.rc.specs.Housed.{All-housed}
-use Rattle.rc.specs.Worlds.{World, world, opened}
+use Rattle.rc.specs.Worlds.{opened}
 use Rattle.rc.proofs.Housed.{gathered, housed-none}
-use Rattle.drive.specs.Meanings.{meaning-of}
 use Rattle.drive.proofs.drive.Drive.open.Needs as need
 
 pub ghost-result : need.ghost-result

@@ -86,11 +86,12 @@ Decrements refs w memory list p r v list′ =
     (λ a. (t : Receipt) × Says (t .listed) p a × Goes refs memory p (held-strong w p) list t v list′)
     ((v ≡ w) × (list′ ≡ list))
 
--- `u`: one strong handle more where one is left, and nothing where none is
+-- one strong handle more where one is left, and nothing where none is
 abbrev pub Upgraded-to : World → ℕ → Option ℕ → World → Type 0
 Upgraded-to w p None v = (at (w .rows) p .strong ≡ 0) × (v ≡ w)
 Upgraded-to w p (Some n) v = (0 < at (w .rows) p .strong) × (n ≡ p) × (v ≡ with-row w p (one-strong (at (w .rows) p)))
 
+-- `u`: a strong handle beside the weak one, or none
 abbrev pub Upgrades : {E : Type 0} → World → List E → ℕ → Result Answer Decline → World → Type 0
 Upgrades w memory p r v =
     Answers (wrong-memory w memory ∷ no-loose-weak w (Some p) ∷ full-strong w p ∷ []) r

@@ -30,6 +30,7 @@ pub record State : Type 0 where
   pub memory : List Note
   pub list : List Note
 
+-- the state of a drive
 abbrev pub state-of : Drive → State
 state-of d = record { world = world meaning-of (d .census); memory = d .memory; list = d .list }
 
@@ -37,11 +38,13 @@ state-of d = record { world = world meaning-of (d .census); memory = d .memory; 
 abbrev pub Plain : ℕ → Note → Type 0
 Plain n x = (x .number ≡ n) × (x .references ≡ replicate 4 Empty)
 
--- a new drive: no cell and no block over eight places, and blank notes
+-- eight notes with the number 0
+abbrev pub Blank : List Note → Type 0
+Blank xs = (x : Note) × Plain 0 x × (xs ≡ replicate 8 x)
+
+-- a new drive: no cell and no block over eight places
 abbrev pub Opened : State → Type 0
-Opened s =
-    (s .world ≡ opened 0 (first-fit-with 8 []))
-    × ((x : Note) × Plain 0 x × (s .memory ≡ replicate 8 x) × (s .list ≡ replicate 8 x))
+Opened s = (s .world ≡ opened 0 (first-fit-with 8 [])) × Blank (s .memory) × Blank (s .list)
 
 -- the memory and the list stay
 abbrev Rest : State → State → Type 0

@@ -1,5 +1,7 @@
 //! Allocators of blocks of places, each known to its callers by its meaning alone.
 
+#![tactic(auto)]
+
 mod allocator;
 mod block;
 mod first_fit;

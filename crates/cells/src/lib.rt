@@ -3,6 +3,8 @@
 //! A `Row` is what the table stores for a place and promises nothing. A `Cell` is made from a row
 //! after a test, keeps its counts in order through every change, and is written back whole.
 
+#![tactic(auto)]
+
 mod cell;
 mod changes;
 mod row;

@@ -1,5 +1,7 @@
 //! Disposal: what the release of a handle does to the cells, and to the elements in them.
 
+#![tactic(auto)]
+
 mod counts;
 mod elements;
 mod laws;

@@ -1,5 +1,7 @@
 //! Works a census over eight places by the lines of a script. Between lines every handle is loose.
 
+#![tactic(auto)]
+
 mod answer;
 mod drive;
 mod ends;

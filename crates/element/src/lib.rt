@@ -1,5 +1,7 @@
 //! What a memory holds: plain data that says its references to cells.
 
+#![tactic(auto)]
+
 mod letter;
 mod note;
 mod reference;

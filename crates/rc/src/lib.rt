@@ -1,5 +1,7 @@
 //! Counted cells over one lent memory: `Rc`, `Weak` and their calls, as methods of a census.
 
+#![tactic(auto)]
+
 mod census;
 mod checks;
 mod counting;

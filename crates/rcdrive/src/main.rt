@@ -1,5 +1,7 @@
 //! Reads the lines of a script from standard input, and prints a reply for each.
 
+#![tactic(auto)]
+
 use drive::{Drive, Reply};
 use std::io;
 use std::io::{BufRead, BufReader, BufWriter, Write};

@@ -1,5 +1,7 @@
 //! The references of elements, as handles of the cells that they name.
 
+#![tactic(auto)]
+
 mod copied;
 mod named;
 mod taken;

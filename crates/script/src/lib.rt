@@ -1,5 +1,7 @@
 //! Reads the lines of a script for `rcdrive`: a letter, one space and a 32-bit decimal number.
 
+#![tactic(auto)]
+
 mod commands;
 mod lines;
 mod numbers;

@@ -4,31 +4,31 @@ use Rattle.blocks.proofs.Scans.{walked_before, walked_inside, walked_past, walke
 use Rattle.blocks.proofs.Scans.{walked_missed}
 use Rattle.blocks.proofs.gaps.lowest_gap.Goals as goal
 
-pub has-room-requires : goal.has-room-requires
-has-room-requires c = walked_before c.loop-line.invariant c.loop-line-test.true
+pub has_room-requires : goal.has_room-requires
+has_room-requires c = walked_before c.loop-line.invariant c.loop-line-test.true
 
-pub returns-then-has-room : goal.returns-then-has-room
-returns-then-has-room c =
+pub returns-then-has_room : goal.returns-then-has_room
+returns-then-has_room c =
     walked_here c.loop-line.invariant c.loop-line-test.true
-    (leb-true _ _ (sym c.has-room.ensures ∙ c.if-has-room.true))
+    (leb-true _ _ (sym c.has_room.ensures ∙ c.if-has_room.true))
 
-pub overflow-add-from : goal.overflow-add-from
-overflow-add-from c = omega (arith, walked_inside c.loop-line.invariant c.loop-line-test.true)
+pub overflow_add-from : goal.overflow_add-from
+overflow_add-from c = omega (arith, walked_inside c.loop-line.invariant c.loop-line-test.true)
 
 pub loop-line-preserved : goal.loop-line-preserved
 loop-line-preserved c =
     walked_past c.loop-line.invariant c.loop-line-test.true
-    (leb-false _ _ (sym c.has-room.ensures ∙ c.if-has-room.false))
+    (leb-false _ _ (sym c.has_room.ensures ∙ c.if-has_room.false))
 
-pub has-room-requires-2 : goal.has-room-requires-2
-has-room-requires-2 c = walked_end c.loop-line.invariant
+pub has_room-requires-2 : goal.has_room-requires-2
+has_room-requires-2 c = walked_end c.loop-line.invariant
 
-pub returns-then-has-room-2 : goal.returns-then-has-room-2
-returns-then-has-room-2 c =
+pub returns-then-has_room-2 : goal.returns-then-has_room-2
+returns-then-has_room-2 c =
     walked_found c.loop-line.invariant (omega arith)
-    (leb-true _ _ (sym c.has-room-2.ensures ∙ c.if-has-room-2.true))
+    (leb-true _ _ (sym c.has_room-2.ensures ∙ c.if-has_room-2.true))
 
-pub returns-else-has-room-2 : goal.returns-else-has-room-2
-returns-else-has-room-2 c =
+pub returns-else-has_room-2 : goal.returns-else-has_room-2
+returns-else-has_room-2 c =
     walked_missed c.loop-line.invariant (omega arith)
-    (leb-false _ _ (sym c.has-room-2.ensures ∙ c.if-has-room-2.false))
+    (leb-false _ _ (sym c.has_room-2.ensures ∙ c.if-has_room-2.false))

@@ -3,5 +3,5 @@ use Rattle.blocks.proofs.lines.insert_at.Goals as goal
 
 pub returns : goal.returns
 returns c =
-    turned_in c.args.lines.now c.rotate-right.new.self c.args.count c.args.line _ c.args.x
-    c.requires.0 c.requires.1 c.rotate-right.ensures.after
+    turned_in c.args.lines.now c.rotate_right.new.self c.args.count c.args.line _ c.args.x
+    c.requires.0 c.requires.1 c.rotate_right.ensures.after

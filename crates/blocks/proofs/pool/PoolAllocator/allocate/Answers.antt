@@ -3,22 +3,22 @@ use Rattle.blocks.proofs.Pools.{pool_used, pool_full, pool_lowest, pool_hands_ou
 use Rattle.blocks.proofs.Pools.{pool_more_inside}
 use Rattle.blocks.proofs.pool.PoolAllocator.allocate.Goals as goal
 
-pub returns-in-default : goal.returns-in-default
-returns-in-default c =
+pub returns-in_default : goal.returns-in_default
+returns-in_default c =
     record {
       hands_out = (
         refl,
-        pool_full c.args.self.now c.args.n c.in-default.ensures,
+        pool_full c.args.self.now c.args.n c.in_default.ensures,
         refl,
       );
       lowest = tt;
     }
 
-pub overflow-add-self : goal.overflow-add-self
-overflow-add-self c = omega (arith, pool_used c.args.self.now)
+pub overflow_add-self : goal.overflow_add-self
+overflow_add-self c = omega (arith, pool_used c.args.self.now)
 
-pub invariant-of-self : goal.invariant-of-self
-invariant-of-self c =
+pub invariant_of-self : goal.invariant_of-self
+invariant_of-self c =
     let p = c.args.self.now in
     let ls = c.fill.new.self.lens in
     let n = c.args.n in

@@ -6,8 +6,8 @@ pub free-requires : goal.free-requires
 free-requires c =
     let e = c.in-Some.ensures in omega (arith, pool_place c.args.self.now c.in-Some.k (omega arith))
 
-pub overflow-sub-self : goal.overflow-sub-self
-overflow-sub-self c =
+pub overflow_sub-self : goal.overflow_sub-self
+overflow_sub-self c =
     let e = c.in-Some.ensures in
     omega (
       arith,
@@ -15,8 +15,8 @@ overflow-sub-self c =
           c.in-Some.k e.0 e.1 e.2 c.free.ensures,
     )
 
-pub invariant-of-self : goal.invariant-of-self
-invariant-of-self c =
+pub invariant_of-self : goal.invariant_of-self
+invariant_of-self c =
     let p = c.args.self.now in
     let ls = c.free.new.self.lens in
     let i = c.in-Some.k in

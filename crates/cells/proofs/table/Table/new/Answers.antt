@@ -3,8 +3,8 @@ use Rattle.cells.specs.declared.row.Row.{Row}
 use Rattle.cells.proofs.Rows.{small_none, standing_none, counts_replicate, links_replicate}
 use Rattle.cells.proofs.table.Table.new.Goals as goal
 
-pub invariant-of-result : goal.invariant-of-result
-invariant-of-result c =
+pub invariant_of-result : goal.invariant_of-result
+invariant_of-result c =
     let e = ap (λ (r : Row). r.counts.standing) c.free.ensures in
     (refl, (small_none 1024 c.free.result e, (standing_none 1024 c.free.result e, tt)))
 

@@ -13,8 +13,8 @@ old_is c =
     let l : c.args.p < length c.args.self.now.rows = omega arith in
     c.rewrite-old.ensures.standing ∙ ap (λ (k : Counts). k.standing) (counts_here c.args.self.now.rows c.args.p _ l)
 
-pub overflow-sub-self : goal.overflow-sub-self
-overflow-sub-self c =
+pub overflow_sub-self : goal.overflow_sub-self
+overflow_sub-self c =
     let rows = c.args.self.now.rows in
     let full = c.args.self.now.full in
     let l : c.args.p < length rows = omega arith in
@@ -22,8 +22,8 @@ overflow-sub-self c =
     c.rewrite-old.ensures.standing ∙ ap (λ (k : Counts). k.standing) (counts_here rows c.args.p _ l) in
     omega (arith, e, standing_at (counts_of rows) c.args.p, c.args.self.now.sum)
 
-pub overflow-add-self : goal.overflow-add-self
-overflow-add-self c =
+pub overflow_add-self : goal.overflow_add-self
+overflow_add-self c =
     let full = c.args.self.now.full in
     let n = counts_length c.args.self.now.rows in
     let b = standing_bound (counts_of c.args.self.now.rows) c.args.self.now.few in
@@ -31,8 +31,8 @@ overflow-add-self c =
     let m : c.args.row.counts.standing ≤ 65535 = search rules in
     omega (arith, c.from-then-p-lt1024.ensures)
 
-pub invariant-of-self : goal.invariant-of-self
-invariant-of-self c =
+pub invariant_of-self : goal.invariant_of-self
+invariant_of-self c =
     let rows = c.args.self.now.rows in
     let p = c.args.p in
     let full = c.args.self.now.full in

@@ -4,8 +4,8 @@ use Rattle.cells.specs.Rows.{counts_of, links_of, small, standing_in}
 use Rattle.cells.proofs.Rows.{counts_same, links_set, links_length}
 use Rattle.cells.proofs.table.Table.relink.Goals as goal
 
-pub invariant-of-self : goal.invariant-of-self
-invariant-of-self c =
+pub invariant_of-self : goal.invariant_of-self
+invariant_of-self c =
     let full = c.args.self.now.full in
     let l : c.args.p < length c.args.self.now.rows = omega arith in
     let same = counts_same c.args.self.now.rows c.args.p _ c.relink.new.row l c.relink.ensures.counts in

@@ -10,6 +10,6 @@ returns c =
     let rows = c.args.self.now.rows in
     let p = c.args.p in
     record {
-      counts = c.put.ensures.counts ∙ ap (λ (r : Row). set (counts_of rows) p r.counts) c.free_row.ensures;
+      counts = c.put.ensures.counts ∙ ap (λ (r : Row). set (counts_of rows) p r.counts) c.free-row.ensures;
       links = c.put.ensures.links ∙ ap (set (links_of rows) p) c.get.ensures.link ∙ set-get_or (links_of rows) p at_rest;
     }

@@ -1,4 +1,4 @@
-use Rattle.std.proofs.Common.{◌<◌, ◌≤◌, length, ap, ◌∙◌, arith, rules}
+use Rattle.std.proofs.Common.{◌<◌, ◌≤◌, length, ap, ◌∙◌, arith}
 use Rattle.cells.specs.declared.row.Row.{Row}
 use Rattle.cells.proofs.Rows.{counts_here, links_here, counts_past, links_past}
 use Rattle.cells.proofs.table.Table.get.Goals as goal

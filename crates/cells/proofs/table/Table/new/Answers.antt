@@ -6,7 +6,7 @@ use Rattle.cells.proofs.table.Table.new.Goals as goal
 pub invariant_of-result : goal.invariant_of-result
 invariant_of-result c =
     let e = ap (λ (r : Row). r.counts.standing) c.free.ensures in
-    (refl, (small_none 1024 c.free.result e, (standing_none 1024 c.free.result e, tt)))
+    record { full = refl; few = small_none 1024 c.free.result e; sum = standing_none 1024 c.free.result e }
 
 pub returns : goal.returns
 returns c =

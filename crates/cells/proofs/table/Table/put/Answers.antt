@@ -1,4 +1,4 @@
-use Rattle.std.proofs.Common.{◌≡◌, ◌+◌, ◌-◌, ◌<◌, ◌≤◌, true, length, set, sym, refl, ap, ◌∙◌, subst, arith, rules}
+use Rattle.std.proofs.Common.{◌≡◌, ◌<◌, ◌≤◌, length, set, sym, ap, ◌∙◌, arith, rules}
 use Rattle.std.proofs.lemmas.List.{set_past, length-set}
 use Rattle.cells.specs.Rows.{at, counts_of, links_of, small, standing_in}
 use Rattle.cells.specs.declared.row.Counts.{Counts}
@@ -39,13 +39,12 @@ invariant_of-self c =
     let m : p < length (counts_of rows) = omega (arith, counts_length rows) in
     let row = c.args.row in
     let e = counts_set rows p c.rewrite-old.new.row ∙ ap (λ (r : Row). set (counts_of rows) p r.counts) c.rewrite-old.ensures.after in
-    let sum = standing_set (counts_of rows) p row.counts m in (
-      length-set rows p _ ∙ full,
-      (
-        ap small e ∙ small_set (counts_of rows) p row.counts c.args.self.now.few (search rules),
-        (omega (arith, old_is c, ap standing_in e, sum, standing_at (counts_of rows) p, c.args.self.now.sum, c.from.ensures, c.from-then-p-lt1024.ensures), tt),
-      ),
-    )
+    let sum = standing_set (counts_of rows) p row.counts m in
+    record {
+      full = length-set rows p _ ∙ full;
+      few = ap small e ∙ small_set (counts_of rows) p row.counts c.args.self.now.few (search rules);
+      sum = omega (arith, old_is c, ap standing_in e, sum, standing_at (counts_of rows) p, c.args.self.now.sum, c.from.ensures, c.from-then-p-lt1024.ensures);
+    }
 
 pub returns-then-p-lt1024 : goal.returns-then-p-lt1024
 returns-then-p-lt1024 c =

@@ -1,6 +1,6 @@
-use Rattle.std.proofs.Common.{◌≡◌, ◌<◌, ◌≤◌, true, length, set, sym, refl, ap, ◌∙◌, arith}
+use Rattle.std.proofs.Common.{◌<◌, ◌≤◌, length, set, sym, refl, ap, ◌∙◌, arith}
 use Rattle.std.proofs.lemmas.List.{set_past, length-set}
-use Rattle.cells.specs.Rows.{counts_of, links_of, small, standing_in}
+use Rattle.cells.specs.Rows.{links_of, small, standing_in}
 use Rattle.cells.proofs.Rows.{counts_same, links_set, links_length}
 use Rattle.cells.proofs.table.Table.relink.Goals as goal
 
@@ -9,7 +9,7 @@ invariant_of-self c =
     let full = c.args.self.now.full in
     let l : c.args.p < length c.args.self.now.rows = omega arith in
     let same = counts_same c.args.self.now.rows c.args.p _ c.relink.new.row l c.relink.ensures.counts in
-    (length-set c.args.self.now.rows c.args.p _ ∙ full, (ap small same ∙ c.args.self.now.few, (c.args.self.now.sum ∙ sym (ap standing_in same), tt)))
+    record { full = length-set c.args.self.now.rows c.args.p _ ∙ full; few = ap small same ∙ c.args.self.now.few; sum = c.args.self.now.sum ∙ sym (ap standing_in same) }
 
 pub returns-then-p-lt1024 : goal.returns-then-p-lt1024
 returns-then-p-lt1024 c =

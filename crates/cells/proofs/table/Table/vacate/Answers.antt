@@ -1,6 +1,5 @@
 use Rattle.std.proofs.Common.{set, ap, ◌∙◌}
 use Rattle.std.proofs.lemmas.List.{set-get_or}
-use Rattle.cells.specs.Counts.{none}
 use Rattle.cells.specs.Rows.{at_rest, counts_of, links_of}
 use Rattle.cells.specs.declared.row.Row.{Row}
 use Rattle.cells.proofs.table.Table.vacate.Goals as goal

@@ -13,7 +13,7 @@ use Rattle.blocks.specs.Rules.{has_gap, first_fits}
 use Rattle.blocks.specs.Taken.{taken}
 use Rattle.blocks.specs.Edits.{total_insert, total_remove, total_le, apart_insert, apart_remove}
 use Rattle.blocks.specs.Fits.{has_gap_at}
-use Rattle.blocks.proofs.Scans.{apart_of}
+use Rattle.blocks.specs.Soundness.{apart_of}
 
 module _ (f : FirstFit) where
   abbrev out : List Block

@@ -1,12 +1,24 @@
 -- Blocks in lines: one found, put in or taken out at its line.
-use Rattle.std.proofs.Common.{◌≡◌, ℕ, suc, ◌+◌, ◌-◌, ◌<◌, ◌≤◌, Bool, true, false, ◌||◌, List, [], ◌∷◌, ◌++◌, length, take, drop, set, sym, ap, ◌∙◌, ap₂, add-one, arith}
+use Rattle.std.proofs.Common.{◌≡◌, ℕ, suc, ◌+◌, ◌-◌, ◌<◌, ◌≤◌, Bool, true, false, ◌||◌, List, [], ◌∷◌, ◌++◌, length, take, drop, set, sym, ap, ◌∙◌, ⊎_elim, ap₂, add-one, arith}
 use borrow.Rule.Slice.PartMut.{put_mid, post_of}
 use Rattle.std.specs.List.{insert, remove as removed, between}
 use Rattle.std.proofs.lemmas.List.{append_assoc, length-set, length-take-le, length-drop, length-append, take_at, drop_at, take-take, take-set-le, take_more_set, drop_all, drop-drop, drop-append-le}
 use Rattle.std.proofs.lemmas.Slice.{between_is, take-put_mid}
-use Rattle.std.proofs.lemmas.Bool.{cond-true, cond-false, or_left}
+use Rattle.std.proofs.lemmas.Bool.{cases_Bool, cond-true, cond-false, or_left, and_from, eq-eqb, false≢true}
 use Rattle.blocks.specs.declared.block.Block.{Block}
 use Rattle.blocks.specs.Blocks.{same, member, remove}
+use Rattle.blocks.specs.Edits.{same_is, not_same}
+
+-- the order of the two blocks does not matter
+pub same_comm : (x y : Block) → same x y ≡ same y x
+same_comm x y =
+    ⊎_elim
+    (λ (e : same x y ≡ true). let q = same_is x y e in
+    e ∙ sym (and_from _ _ (eq-eqb y.offset x.offset (sym (ap (λ (b : Block). b.offset) q)))
+    (eq-eqb y.len x.len (sym (ap (λ (b : Block). b.len) q)))))
+    (λ (e : same x y ≡ false).
+    e ∙ sym (not_same y x (λ o l. false≢true (sym e ∙ and_from _ _ (eq-eqb x.offset y.offset (sym o)) (eq-eqb x.len y.len (sym l))))))
+    (cases_Bool (same x y))
 
 -- the first i lines do not have the block
 pub record Sought (x : Block) (bs : List Block) (i : ℕ) : Type 0 where

@@ -12,7 +12,8 @@ use Rattle.blocks.specs.Kinds.{pool_with}
 use Rattle.blocks.specs.Slots.{slots_out}
 use Rattle.blocks.specs.Edits.{total_insert, total_remove, total_le, clear_shorter}
 use Rattle.blocks.specs.Fits.{free_slot_at, free_slot_none}
-use Rattle.blocks.proofs.Slotted.{slots_apart, slot_clear, slot_insert, slot_remove, slot_member, slot_stranger}
+use Rattle.blocks.specs.Soundness.{pool_slots_apart}
+use Rattle.blocks.proofs.Slotted.{slot_clear, slot_insert, slot_remove, slot_member, slot_stranger}
 
 -- what holds of each place still does after one is written
 each_put : (P : ℕ → ℕ → Type 0) (ss ls : List ℕ) (i v : ℕ) → ls ≡ set ss i v → i < length ss → P i v
@@ -37,9 +38,7 @@ module _ (p : Pool) where
   out = slots_out p.unit 0 p.slots.lens
 
   pub pool_apart : Apart p.extent 0 out
-  pool_apart =
-      slots_apart p.unit p.extent 0 0 p.slots.lens (omega arith) (omega arith) p.held
-      (λ k q. omega (arith, p.inside k q))
+  pool_apart = pool_slots_apart p.unit p.extent p.slots.lens p.held p.inside
 
   pub pool_used : p.used ≤ p.extent
   pool_used = let c = p.counted in omega (arith, total_le p.extent 0 out pool_apart)

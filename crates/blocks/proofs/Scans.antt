@@ -1,8 +1,5 @@
 -- A walk over blocks apart, from one to the next, that stops at the first gap of n.
 use Rattle.std.proofs.Common.{◌≡◌, ℕ, suc, ◌+◌, ◌<◌, ◌≤◌, true, false, cond, leb, List, [], ◌∷◌, length, get_or, drop, sym, refl, ap, ◌∙◌, subst, subst₂, ⊎_elim, arith}
-use mathlib.Core.HLevel.{×₃_prop}
-use mathlib.Core.Logic.{∥∥₁_elim}
-use native.Mathlib.Bridge.{le_prop}
 use Rattle.std.specs.List.{insert as inserted}
 use Rattle.std.proofs.lemmas.List.{drop_more, drop_all}
 use Rattle.std.proofs.lemmas.Bool.{cases_lt, cond-true, cond-false, lt-ltb, le-ltb, le-leb, lt-leb, and_from, and_left, and_right, or_left, or_right, or_from}
@@ -12,13 +9,6 @@ use Rattle.blocks.specs.Gaps.{GapAt}
 use Rattle.blocks.specs.Rules.{has_gap}
 use Rattle.blocks.specs.Edits.{total_le}
 use Rattle.blocks.specs.Fits.{has_gap_none}
-
-apart_prop : (extent from : ℕ) (bs : List Block) → IsProp (Apart extent from bs)
-apart_prop extent from [] = le_prop
-apart_prop extent from (b ∷ bs) = ×₃_prop le_prop le_prop (apart_prop extent (b.offset + b.len) bs)
-
-pub apart_of : (extent from : ℕ) (bs : List Block) → ∥ Apart extent from bs ∥₁ → Apart extent from bs
-apart_of extent from bs a = ∥∥₁_elim a (apart_prop extent from bs) (λ x. x)
 
 pub apart_le : (extent from : ℕ) (bs : List Block) → Apart extent from bs → from ≤ extent
 apart_le extent from bs a = omega (arith, total_le extent from bs a)

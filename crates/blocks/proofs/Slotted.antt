@@ -1,27 +1,11 @@
 -- The blocks in the slots of a pool: apart, and one more or one less by one slot.
-use Rattle.std.proofs.Common.{◌≡◌, ℕ, zero, suc, ◌+◌, ◌*◌, ◌<◌, ◌≤◌, Bool, true, false, ◌&&◌, eqb, ltb, ◌⊎◌, List, [], ◌∷◌, length, get_or, set, replicate, sym, refl, ap, ◌∙◌, subst, inl, inr, ⊎_elim, suc-mul, zero-mul, arith}
+use Rattle.std.proofs.Common.{◌≡◌, ℕ, zero, suc, ◌+◌, ◌*◌, ◌<◌, ◌≤◌, Bool, true, false, ◌&&◌, eqb, List, [], ◌∷◌, length, get_or, set, replicate, sym, refl, ap, ◌∙◌, subst, ⊎_elim, suc-mul, zero-mul, arith}
 use Rattle.std.proofs.lemmas.Bool.{cond-true, cond-false, lt-ltb, le-ltb, le-leb, lt-leb, ne_eqb, eq-eqb, and_left, and_from, or_left, or_right, or_from}
 use Rattle.blocks.specs.declared.block.Block.{Block}
-use Rattle.blocks.specs.Blocks.{block, Apart, member, insert, remove, clear}
+use Rattle.blocks.specs.Blocks.{block, member, insert, remove, clear}
 use Rattle.blocks.specs.Slots.{slots_out}
 use Rattle.blocks.specs.Edits.{not_same}
-
-none_or_some : (s : ℕ) → (s ≡ 0) ⊎ (0 < s)
-none_or_some zero = inl refl
-none_or_some (suc s) = inr (omega arith)
-
-slot_free : (unit at s : ℕ) (ss : List ℕ) → s ≡ 0 → slots_out unit at (s ∷ ss) ≡ slots_out unit (at + unit) ss
-unfolding slots_out
-slot_free unit at s ss e = cond-false (ltb 0 s) _ _ (le-ltb 0 s (omega arith))
-
-slot_taken : (unit at s : ℕ) (ss : List ℕ) → 0 < s
-    → slots_out unit at (s ∷ ss) ≡ block at s ∷ slots_out unit (at + unit) ss
-unfolding slots_out
-slot_taken unit at s ss l = cond-true (ltb 0 s) _ _ (lt-ltb 0 s l)
-
-slots_end : (unit at : ℕ) → slots_out unit at [] ≡ []
-unfolding slots_out
-slots_end unit at = refl
+use Rattle.blocks.specs.Soundness.{none_or_some, slot_free, slot_taken, slots_end}
 
 pub slots_none : (unit at n : ℕ) → slots_out unit at (replicate n 0) ≡ []
 slots_none unit at zero = slots_end unit at
@@ -31,23 +15,6 @@ pub getD_zeros : (n k : ℕ) → get_or {A = ℕ} (replicate n 0) k 0 ≡ 0
 getD_zeros zero k = refl
 getD_zeros (suc n) zero = refl
 getD_zeros (suc n) (suc k) = getD_zeros n k
-
-pub slots_apart : (unit extent at from : ℕ) (ss : List ℕ) → from ≤ at → from ≤ extent
-    → ((k : ℕ) → get_or ss k 0 ≤ unit) → ((k : ℕ) → 0 < get_or ss k 0 → at + k * unit + unit ≤ extent)
-    → Apart extent from (slots_out unit at ss)
-slots_apart unit extent at from [] l e held inside = rw slots_end e
-slots_apart unit extent at from (s ∷ ss) l e held inside =
-    let next : (k : ℕ) → 0 < get_or ss k 0 → at + unit + k * unit + unit ≤ extent = λ k p. omega
-    (arith, inside (suc k) p, suc-mul k unit) in
-    ⊎_elim
-    (λ (z : s ≡ 0). rw (slot_free unit at s ss z)
-    (slots_apart unit extent (at + unit) from ss (omega arith) e (λ k. held (suc k)) next))
-    (λ (p : 0 < s).
-    let h : s ≤ unit = held 0 in
-    let i : at + 0 * unit + unit ≤ extent = inside 0 p in
-    rw (slot_taken unit at s ss p)
-    (l, p, slots_apart unit extent (at + unit) (at + s) ss (omega arith) (omega arith) (λ k. held (suc k)) next))
-    (none_or_some s)
 
 -- a slot is clear when it is free
 later_clear : (unit at p n : ℕ) (ss : List ℕ) → p + n ≤ at → clear p n (slots_out unit at ss) ≡ true

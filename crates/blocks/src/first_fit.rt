@@ -8,7 +8,7 @@ ghost use Rattle.blocks.specs.Lined.{LineOf};
 ghost use Rattle.blocks.specs.Meaning.{Allocates};
 ghost use Rattle.blocks.specs.Taken.{taken};
 ghost use Rattle.blocks.specs.Fits.{first_lengths, first_one, first_fewer};
-ghost use Rattle.std.proofs.Common.{rules, arith};
+ghost use Rattle.blocks.specs.Soundness.{apart_of};
 
 use crate::allocator::Allocator;
 use crate::block::{Block, Decline};
@@ -60,9 +60,9 @@ impl FirstFit {
 impl Allocator for FirstFit {
     ghost meaning = { λ s. first_fit_with s.extent (taken s.table) };
 
-    ghost small = { first_of (Prim.search rules, Prim.grind (arith, Self.row.coded.inj)) };
+    ghost small = { λ a. a.size };
 
-    ghost sound = { first_of (Prim.search rules, Prim.grind (arith, Self.row.coded.inj)) };
+    ghost sound = { λ a. apart_of a.extent 0 (taken a.table) a.apart };
 
     ghost lengths = { λ a bs n h. first_lengths a.extent bs n h };
 

@@ -6,7 +6,8 @@ ghost use Rattle.blocks.specs.Kinds.{pool_with};
 ghost use Rattle.blocks.specs.Meaning.{Allocates};
 ghost use Rattle.blocks.specs.Slots.{slots_out, LowestSlot, LowestFree, SlotOf};
 ghost use Rattle.blocks.specs.Fits.{pool_one, pool_fewer};
-ghost use Rattle.std.proofs.Common.{rules, arith};
+ghost use Rattle.blocks.specs.Soundness.{pool_slots_apart};
+ghost use Rattle.std.proofs.Common.{rules};
 
 use crate::allocator::Allocator;
 use crate::block::Decline;
@@ -73,11 +74,11 @@ impl Pool {
 impl Allocator for Pool {
     ghost meaning = { λ s. pool_with s.extent s.unit (slots_out s.unit 0 s.slots.lens) };
 
-    ghost small = { first_of (Prim.search rules, Prim.grind (arith, Self.row.coded.inj)) };
+    ghost small = { Prim.search rules };
 
-    ghost sound = { first_of (Prim.search rules, Prim.grind (arith, Self.row.coded.inj)) };
+    ghost sound = { λ a. pool_slots_apart a.unit a.extent a.slots.lens a.held a.inside };
 
-    ghost lengths = { first_of (Prim.search rules, Prim.grind (arith, Self.row.coded.inj)) };
+    ghost lengths = { Prim.search rules };
 
     ghost one = { λ a. pool_one a.extent a.unit a.sizes.0 a.sizes.1 };
 

@@ -9,13 +9,12 @@ pub invariant_of-self : goal.invariant_of-self
 invariant_of-self c =
     let f = c.args.self.now in
     let g = c.in-Some.gap in
-    let e = c.in-Some.ensures in (
-      f.size,
-      (
-        ∣ fit_more_apart f _ c.args.n g.offset g.line e.0 e.1 e.2 c.put_in.ensures ∣₁,
-        (fit_more f _ c.args.n g.offset g.line e.0 e.1 e.2 c.put_in.ensures, tt),
-      ),
-    )
+    let e = c.in-Some.ensures in
+    record {
+      size = f.size;
+      apart = ∣ fit_more_apart f _ c.args.n g.offset g.line e.0 e.1 e.2 c.put_in.ensures ∣₁;
+      counted = fit_more f _ c.args.n g.offset g.line e.0 e.1 e.2 c.put_in.ensures;
+    }
 
 pub returns : goal.returns
 returns c =

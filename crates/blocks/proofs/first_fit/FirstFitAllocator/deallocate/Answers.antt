@@ -16,10 +16,9 @@ pub invariant_of-self : goal.invariant_of-self
 invariant_of-self c =
     let f = c.args.self.now in
     let b = block c.args.offset c.args.n in
-    let e = c.in-Some.ensures in (
-      f.size,
-      (
-        ∣ fit_less_apart f _ b c.in-Some.line e.1 e.2 c.take_out.ensures ∣₁,
-        (omega (arith, fit_less f _ b c.in-Some.line e.1 e.2 c.take_out.ensures), tt),
-      ),
-    )
+    let e = c.in-Some.ensures in
+    record {
+      size = f.size;
+      apart = ∣ fit_less_apart f _ b c.in-Some.line e.1 e.2 c.take_out.ensures ∣₁;
+      counted = omega (arith, fit_less f _ b c.in-Some.line e.1 e.2 c.take_out.ensures);
+    }

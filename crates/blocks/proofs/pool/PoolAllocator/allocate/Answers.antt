@@ -24,16 +24,13 @@ invariant_of-self c =
     let n = c.args.n in
     let i = c.in-Some.k in
     let e = c.in-Some.ensures in
-    let put = c.fill.ensures in (
-      p.sizes,
-      (
-        pool_more_held p ls n i (omega arith) (omega arith) e.0 e.1 put,
-        (
-          pool_more_inside p ls n i (omega arith) (omega arith) e.0 e.1 put,
-          (pool_more p ls n i (omega arith) (omega arith) e.0 e.1 put, tt),
-        ),
-      ),
-    )
+    let put = c.fill.ensures in
+    record {
+      sizes = p.sizes;
+      held = pool_more_held p ls n i (omega arith) (omega arith) e.0 e.1 put;
+      inside = pool_more_inside p ls n i (omega arith) (omega arith) e.0 e.1 put;
+      counted = pool_more p ls n i (omega arith) (omega arith) e.0 e.1 put;
+    }
 
 pub returns : goal.returns
 returns c =

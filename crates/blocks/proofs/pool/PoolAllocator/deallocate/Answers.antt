@@ -21,16 +21,13 @@ invariant_of-self c =
     let ls = c.free.new.self.lens in
     let i = c.in-Some.k in
     let e = c.in-Some.ensures in
-    let put = c.free.ensures in (
-      p.sizes,
-      (
-        pool_less_held p ls c.args.offset c.args.n i e.0 e.1 e.2 put,
-        (
-          pool_less_inside p ls c.args.offset c.args.n i e.0 e.1 e.2 put,
-          (omega (arith, pool_less p ls c.args.offset c.args.n i e.0 e.1 e.2 put), tt),
-        ),
-      ),
-    )
+    let put = c.free.ensures in
+    record {
+      sizes = p.sizes;
+      held = pool_less_held p ls c.args.offset c.args.n i e.0 e.1 e.2 put;
+      inside = pool_less_inside p ls c.args.offset c.args.n i e.0 e.1 e.2 put;
+      counted = omega (arith, pool_less p ls c.args.offset c.args.n i e.0 e.1 e.2 put);
+    }
 
 pub returns : goal.returns
 returns c =

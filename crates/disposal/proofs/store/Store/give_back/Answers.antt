@@ -6,13 +6,13 @@ use Rattle.disposal.specs.Stores.{books_of}
 use Rattle.disposal.proofs.Absent.{declined, returned_absent}
 use Rattle.disposal.proofs.store.Store.give_back.Goals as goal
 
-pub returns-else-is-ok : goal.returns-else-is-ok
-returns-else-is-ok g c =
+pub returns-else-is_ok : goal.returns-else-is_ok
+returns-else-is_ok g c =
     let p = c.args.p in
     let m = g.A.Allocator.meaning in
     let b = books_of m c.args.self.now c.args.receipt.now in
     let d = declined m c.args.self.now.alloc c.deallocate.new.self (block p c.from-size.result) c.deallocate.result
-    c.deallocate.ensures (sym c.is-ok.ensures.value ∙ c.if-is-ok.false) in
+    c.deallocate.ensures (sym c.is_ok.ensures.value ∙ c.if-is_ok.false) in
     let e : c.from-size.result ≡ (at b.rows p).size = c.from-size.ensures ∙ ap (λ (k : Counts). k.size) c.get.ensures.counts in
     let absent = subst (λ (n : ℕ). member (block p n) b.meaning.out ≡ false) e d.0 in
     record {

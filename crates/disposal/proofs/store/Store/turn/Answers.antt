@@ -8,7 +8,7 @@ use Rattle.disposal.proofs.store.Store.turn.Goals as goal
 
 pub returns-then-link-lt-REFERENCES : goal.returns-then-link-lt-REFERENCES
 returns-then-link-lt-REFERENCES g c st ch =
-    let f = c.turn-reference.ensures in
+    let f = c.turn_reference.ensures in
     let table = c.args.self.now.table in
     let lt = subst (λ (k : Link). k.reference < 4) c.get.ensures.link c.if-link-lt-REFERENCES.true in
     onward_at _ _ _ _ _ _ _ _ f.books refl f.links f.place
@@ -18,7 +18,7 @@ returns-then-link-lt-REFERENCES g c st ch =
 
 pub returns-then-next-memory : goal.returns-then-next-memory
 returns-then-next-memory g c st ch =
-    let f = c.turn-element-listed.ensures in
+    let f = c.turn_element-listed.ensures in
     let table = c.args.self.now.table in
     let ge = subst (λ (k : Link). 4 ≤ k.reference) c.get.ensures.link c.if-link-lt-REFERENCES.false in
     let more = subst (λ (k : Link). k.next < k.end) c.get.ensures.link c.if-link.true in
@@ -27,11 +27,11 @@ returns-then-next-memory g c st ch =
     onward_at _ _ _ _ _ _ _ _ f.books f.list f.links refl
     (step_element g.E.Element.refs g.met.E.Element.few c.args.memory.now
     (books_of g.A.Allocator.meaning c.args.self.now c.args.receipt.now) c.args.list.now (links_in table) c.args.p
-    c.turn-element-listed.result l c.requires.place ge more f.element st ch)
+    c.turn_element-listed.result l c.requires.place ge more f.element st ch)
 
 pub returns-else-link : goal.returns-else-link
 returns-else-link g c st ch =
-    let f = c.turn-close.ensures in
+    let f = c.turn_close.ensures in
     let table = c.args.self.now.table in
     let ge = subst (λ (k : Link). 4 ≤ k.reference) c.get.ensures.link c.if-link-lt-REFERENCES.false in
     let full = links_full table in

@@ -1,5 +1,4 @@
-use Rattle.std.proofs.Common.{◌≡◌, ℕ, ◌+◌, ◌-◌, ◌<◌, List, sym, ap, ◌∙◌, arith}
-use Rattle.cells.specs.Tables.{counts_in}
+use Rattle.std.proofs.Common.{◌≡◌, ℕ, ◌+◌, ◌-◌, ◌<◌, List, ap, ◌∙◌, arith}
 use Rattle.cells.specs.declared.row.Counts.{Counts}
 use Rattle.references.specs.References.{nth, raised, lowered, raised_upto}
 use Rattle.references.proofs.Copying.{upto_none, upto_more, overflows_down, undone}
@@ -13,8 +12,8 @@ loop-j-preserved g c rows safe start =
     let lt : j - 1 < c.args.count = omega arith in
     let fine = overflows_down f (j - 1) c.args.count rows safe lt in
     c.lower.ensures
-    ∙ ap (λ (z : List Counts). lowered z c.reference-at-r.result) (c.loop-j.invariant rows safe start ∙ ap (λ (k : ℕ). raised_upto f k rows) one ∙ upto_more f (j - 1) rows)
-    ∙ ap (lowered (raised (raised_upto f (j - 1) rows) (f (j - 1)))) c.reference-at-r.ensures
+    ∙ ap (λ (z : List Counts). lowered z c.reference_at-r.result) (c.loop-j.invariant rows safe start ∙ ap (λ (k : ℕ). raised_upto f k rows) one ∙ upto_more f (j - 1) rows)
+    ∙ ap (lowered (raised (raised_upto f (j - 1) rows) (f (j - 1)))) c.reference_at-r.ensures
     ∙ undone (raised_upto f (j - 1) rows) (f (j - 1)) fine.1
 
 pub returns : goal.returns

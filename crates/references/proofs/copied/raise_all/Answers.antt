@@ -17,10 +17,10 @@ returns-then-not-raise g c =
     let j = c.loop-j.j in
     let inv = c.loop-j.invariant in
     let stop = c.if-not-raise.ensures in
-    let same : full (counts_in c.loop-j.table) c.reference-at-r.result ≡ full (raised_upto f j rows) (f j) = ap₂ full inv.1 c.reference-at-r.ensures in
+    let same : full (counts_in c.loop-j.table) c.reference_at-r.result ≡ full (raised_upto f j rows) (f j) = ap₂ full inv.1 c.reference_at-r.ensures in
     let over = overflows_more f j rows ∙ or_right (overflows f j rows) _ (sym same ∙ stop.0) in
     let le : j + 1 ≤ 4 * c.args.n = omega arith in
-    (overflows_up f (j + 1) rows (4 * c.args.n) over le, c.lower-all.ensures rows inv.0 (stop.1 ∙ inv.1))
+    (overflows_up f (j + 1) rows (4 * c.args.n) over le, c.lower_all.ensures rows inv.0 (stop.1 ∙ inv.1))
 
 pub loop-j-preserved : goal.loop-j-preserved
 loop-j-preserved g c =
@@ -29,5 +29,5 @@ loop-j-preserved g c =
     let j = c.loop-j.j in
     let inv = c.loop-j.invariant in
     let go = c.if-not-raise.ensures in
-    let same : full (counts_in c.loop-j.table) c.reference-at-r.result ≡ full (raised_upto f j rows) (f j) = ap₂ full inv.1 c.reference-at-r.ensures in
-    (overflows_more f j rows ∙ or_from _ _ inv.0 (sym same ∙ go.0), go.1 ∙ ap₂ raised inv.1 c.reference-at-r.ensures ∙ sym (upto_more f j rows))
+    let same : full (counts_in c.loop-j.table) c.reference_at-r.result ≡ full (raised_upto f j rows) (f j) = ap₂ full inv.1 c.reference_at-r.ensures in
+    (overflows_more f j rows ∙ or_from _ _ inv.0 (sym same ∙ go.0), go.1 ∙ ap₂ raised inv.1 c.reference_at-r.ensures ∙ sym (upto_more f j rows))

@@ -1,9 +1,9 @@
-use Rattle.std.proofs.Common.{◌≡◌, ◌+◌, ◌<◌, ◌≤◌, true, false, length, get_or, take, sym, ap, ◌∙◌, arith}
+use Rattle.std.proofs.Common.{◌≤◌, length, sym, ap, ◌∙◌, arith}
 use Rattle.std.proofs.lemmas.List.{take_all}
 use Rattle.std.proofs.lemmas.Bool.{or_from}
 use Rattle.cells.specs.Tables.{counts_in}
 use Rattle.element.specs.declared.reference.Reference.TheVariants.{Empty}
-use Rattle.references.specs.References.{some_lacking, lacking}
+use Rattle.references.specs.References.{some_lacking}
 use Rattle.references.proofs.Naming.{lacking_more, lacking_here}
 use Rattle.references.proofs.named.lacks_some.Goals as goal
 

@@ -1,4 +1,4 @@
-use Rattle.std.proofs.Common.{◌≡◌, ℕ, ◌<◌, ◌≤◌, length, get_or, take, sym, ap, ◌∙◌, arith, rules}
+use Rattle.std.proofs.Common.{ℕ, ◌≤◌, length, get_or, take, sym, ap, ◌∙◌, arith}
 use Rattle.std.proofs.lemmas.List.{take_all, length-take}
 use Rattle.std.proofs.lemmas.Bool.{cond-true, cond-false}
 use Rattle.element.specs.declared.reference.Reference.TheVariants.{Empty}
@@ -7,8 +7,8 @@ use Rattle.references.proofs.Naming.{named_more, named_bound}
 use Rattle.references.proofs.named.times.Goals as goal
 use Rattle.references.proofs.named.times.Goals.{then-alike, else-alike}
 
-pub overflow-add-n : goal.overflow-add-n
-overflow-add-n c =
+pub overflow_add-n : goal.overflow_add-n
+overflow_add-n c =
     let rs = c.args.rs.now in
     let i = c.loop-s.s-index in
     let b = named_bound c.args.r (take i rs) in

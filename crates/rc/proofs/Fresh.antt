@@ -19,7 +19,7 @@ use Rattle.rc.specs.Checks.{wrong_memory}
 use Rattle.rc.specs.Ends.{Copied, Moved, put_first, copied}
 use Rattle.references.specs.References.{each, held, raised, raised_upto, nth}
 use Rattle.rc.specs.Housed.{AllHoused}
-use Rattle.rc.specs.Worlds.{World, world, books, after}
+use Rattle.rc.specs.Worlds.{World, world, books}
 use Rattle.rc.specs.declared.census.Census.{Census}
 use Rattle.rc.specs.declared.handle.Rc.{Rc}
 use Rattle.rc.proofs.Chains.{head_passed}

@@ -1,5 +1,5 @@
 -- What each call answers, and the world that it leaves.
-use Rattle.std.specs.Prelude.{◌≡◌, ℕ, ◌+◌, ◌-◌, ◌<◌, Bool, true, false, cond, not, List, [], ◌∷◌, take, drop, Some, None, Ok, Err, Option, Result, nat_lt, slice_set}
+use Rattle.std.specs.Prelude.{◌≡◌, ℕ, ◌+◌, ◌-◌, ◌<◌, Bool, false, cond, not, List, [], ◌∷◌, take, drop, Some, None, Ok, Err, Option, Result, nat_lt, slice_set}
 use Rattle.std.specs.Borrow.{Bor}
 use Rattle.blocks.specs.Meaning.{HandsOut}
 use Rattle.cells.specs.Counts.{shared, with_strong, with_weak, with_loose_strong, with_loose_weak}

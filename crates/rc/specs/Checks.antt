@@ -1,5 +1,5 @@
 -- The checks of a call, in order, and what it answers by the first that applies.
-use Rattle.std.specs.Prelude.{◌≡◌, ℕ, ◌<◌, Bool, true, false, cond, not, ◌&&◌, ◌||◌, List, [], ◌∷◌, length, Some, None, Ok, Err, Option, Result, ◌==◌, nat_le, nat_lt}
+use Rattle.std.specs.Prelude.{◌≡◌, ℕ, Bool, true, false, cond, not, ◌&&◌, ◌||◌, List, [], ◌∷◌, length, Some, None, Ok, Err, Option, Result, ◌==◌, nat_le, nat_lt}
 use Rattle.cells.specs.Counts.{is_cell, admits_strong, admits_weak}
 use Rattle.cells.specs.Rows.{at, standing_in}
 use Rattle.cells.specs.declared.row.Shape.{Shape}

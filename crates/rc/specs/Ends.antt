@@ -15,7 +15,6 @@ use Rattle.rc.specs.Worlds.{World, books, with_rows, after}
 use Rattle.rc.specs.declared.decline.Decline.{Decline}
 use Rattle.rc.specs.declared.decline.Refused.{Refused}
 use Rattle.rc.specs.declared.handle.Rc.{Rc}
-use Rattle.rc.specs.declared.handle.Ticket.{Ticket}
 use Rattle.rc.specs.declared.handle.Weak.{Weak}
 
 -- Releases

@@ -1,4 +1,4 @@
-use Rattle.std.proofs.Common.{List, set, sym, ap, ◌∙◌}
+use Rattle.std.proofs.Common.{set, sym, ap, ◌∙◌}
 use Rattle.std.proofs.lemmas.List.{drop_more, drop_all}
 use Rattle.rc.specs.Ends.{put_first}
 use Rattle.rc.proofs.make_mut.copy_one.Goals as goal
@@ -7,7 +7,7 @@ pub returns-then-from-memory : goal.returns-then-from-memory
 returns-then-from-memory g c =
     let memory = c.args.memory.now in
     let x = c.index-memory-from.result in
-    c.write-at.ensures ∙ ap (set memory c.args.to) c.index-memory-from.is ∙ sym (ap (λ z. put_first z memory c.args.to) (drop_more memory c.args.from x c.if-from-memory.true))
+    c.write_at.ensures ∙ ap (set memory c.args.to) c.index-memory-from.is ∙ sym (ap (λ z. put_first z memory c.args.to) (drop_more memory c.args.from x c.if-from-memory.true))
 
 pub returns-else-from-memory : goal.returns-else-from-memory
 returns-else-from-memory g c =

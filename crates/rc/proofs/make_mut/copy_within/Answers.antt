@@ -16,7 +16,7 @@ loop-i-preserved g c =
     let p = c.args.from in
     let q = c.args.to in
     let i = c.loop-i.i in
-    c.copy-one.ensures
+    c.copy_one.ensures
     ∙ ap₂ (λ (a b : ℕ). put_first (drop (p + a) c.loop-i.memory) c.loop-i.memory (q + b)) c.from.ensures c.from-in-loop-i.ensures
     ∙ ap (λ (z : List g.row.E.Denot). put_first (drop (p + i) z) z (q + i)) c.loop-i.invariant
     ∙ sym (more memory p q i)

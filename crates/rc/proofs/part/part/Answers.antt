@@ -1,5 +1,5 @@
-use Rattle.std.proofs.Common.{◌≡◌, min, length, drop, ap, ◌∙◌, arith}
-use Rattle.std.proofs.lemmas.List.{length-drop, length-take}
+use Rattle.std.proofs.Common.{◌≡◌, min, length, drop, arith}
+use Rattle.std.proofs.lemmas.List.{length-drop}
 use Rattle.rc.proofs.Parts.{part_is}
 use Rattle.rc.proofs.part.part.Goals as goal
 

@@ -17,7 +17,7 @@ returns g c =
     let p = c.args.p in
     let q = c.in-Ok.q in
     let told = c.in-Ok.ensures in
-    let up = c.if-not-raise-all.ensures in
+    let up = c.if-not-raise_all.ensures in
     let f = nth g.E.Element.refs c.args.memory.now p in
     let block = subst (λ (n : ℕ). HandsOut w.meaning n q between.meaning) (ap (λ (k : Counts). k.size) c.requires) told.0 in
     let safe : overflows f (4 * (at w.rows p).standing) w.rows ≡ false = subst (λ (k : Counts). overflows f (4 * k.standing) w.rows ≡ false) c.requires up.0 in (
@@ -31,9 +31,9 @@ returns g c =
               c.put.ensures.counts
               ∙ ap₂ (λ (ks : List Counts) (k : Counts). set ks q k)
               (told.2 ∙ up.1 ∙ ap (λ (k : Counts). raised_upto f (4 * k.standing) w.rows) c.requires)
-              (c.into-row.ensures.counts ∙ c.shared-new.ensures.counts ∙ ap (λ (k : Counts). shared k.shape k.size k.standing) c.requires);
+              (c.into_row.ensures.counts ∙ c.shared-new.ensures.counts ∙ ap (λ (k : Counts). shared k.shape k.size k.standing) c.requires);
         };
         fallen = ap {B = World} (λ (rows : List Counts). with_rows between rows) c.lower.ensures;
-        memory_after = c.copy-within.ensures ∙ ap (λ (k : Counts). copied c.args.memory.now p q k.standing) c.requires;
+        memory_after = c.copy_within.ensures ∙ ap (λ (k : Counts). copied c.args.memory.now p q k.standing) c.requires;
       },
     )

@@ -1,4 +1,4 @@
-use Rattle.std.proofs.Common.{◌≡◌, ℕ, Bool, true, false, ltb, List, [], ◌∷◌, MatchBool, sym, refl, ap, ◌∙◌, arith}
+use Rattle.std.proofs.Common.{◌≡◌, ℕ, Bool, true, false, ltb, [], ◌∷◌, MatchBool, sym, refl, ap, ◌∙◌, arith}
 use Rattle.std.proofs.lemmas.Result.{err_from_is_err_and}
 use Rattle.std.proofs.lemmas.Bool.{true≢false, false≢true, lt-ltb, le-ltb}
 use Rattle.cells.specs.Rows.{at}
@@ -23,53 +23,53 @@ at_false : (b : Bool) (P Q : Type 0) → b ≡ false → Q → MatchBool b P Q
 at_false true P Q e q = absurd (true≢false e)
 at_false false P Q e q = q
 
-pub returns-in-err-cell : goal.returns-in-err-cell
-returns-in-err-cell g c =
-    let r = err_from_is_err_and c.from-residual.result c.from-residual.ensures.1 in
+pub returns-in_err-cell : goal.returns-in_err-cell
+returns-in_err-cell g c =
+    let r = err_from_is_err_and c.from_residual.result c.from_residual.ensures.1 in
     let w = world g.A.Allocator.meaning c.args.self.now in
     let t = c.args.rc.now.ticket in
     let p = t.place in
     let memory = c.args.memory.now in
     let admit = wrong_memory w memory ∷ no_rc w t ∷ [] in
-    let d = c.in-err-cell.field-0.0 in
-    let e = c.in-err-cell.ensures.0 in
+    let d = c.in_err-cell.field-0.0 in
+    let e = c.in_err-cell.ensures.0 in
     rw (r.1, r.2) (
     both (ltb 1 (at w.rows p).strong) _ _
     (stopped admit (full_copy g.E.Element.refs w memory p ∷ unfit w (at w.rows p).size ∷ []) d e, (refl, refl, refl))
     (both (ltb 1 (at w.rows p).weak) _ _ (stopped admit (unfit w (at w.rows p).size ∷ []) d e, (refl, refl, refl)) (e, (refl, refl, refl)))
     )
 
-pub returns-in-ok-place : goal.returns-in-ok-place
-returns-in-ok-place g c =
+pub returns-in_ok-place : goal.returns-in_ok-place
+returns-in_ok-place g c =
     let w = world g.A.Allocator.meaning c.args.self.now in
     let t = c.args.rc.now.ticket in
     let p = t.place in
     let memory = c.args.memory.now in
     let m = (wrong_memory w memory).0 in
     let h = (no_rc w t).0 in
-    let cell = c.in-ok-cell.ensures in
-    let told = c.in-ok-place.ensures in
+    let cell = c.in_ok-cell.ensures in
+    let told = c.in_ok-place.ensures in
     let number = own_number w t (second_passed m h 1 3 (omega arith) (omega arith) cell.0) in
-    let more = ap (λ (k : Counts). ltb 1 k.strong) (sym cell.1) ∙ lt-ltb 1 c.in-ok-cell.cell.counts.strong c.if-cell-gt1.true in
+    let more = ap (λ (k : Counts). ltb 1 k.strong) (sym cell.1) ∙ lt-ltb 1 c.in_ok-cell.cell.counts.strong c.if-cell-gt1.true in
     at_true (ltb 1 (at w.rows p).strong) _ _ more (
       past_two m h 1 3 (full_copy g.E.Element.refs w memory p ∷ unfit w (at w.rows p).size ∷ []) (omega arith) (omega arith) cell.0 ∙ told.0,
-      ((ap (λ (n : ℕ). ticket_of n c.in-ok-place.place) number, refl), told.1),
+      ((ap (λ (n : ℕ). ticket_of n c.in_ok-place.place) number, refl), told.1),
     )
 
-pub returns-in-ok-place-2 : goal.returns-in-ok-place-2
-returns-in-ok-place-2 g c =
+pub returns-in_ok-place-2 : goal.returns-in_ok-place-2
+returns-in_ok-place-2 g c =
     let w = world g.A.Allocator.meaning c.args.self.now in
     let t = c.args.rc.now.ticket in
     let p = t.place in
     let memory = c.args.memory.now in
     let m = (wrong_memory w memory).0 in
     let h = (no_rc w t).0 in
-    let cell = c.in-ok-cell.ensures in
-    let told = c.in-ok-place-2.ensures in
+    let cell = c.in_ok-cell.ensures in
+    let told = c.in_ok-place-2.ensures in
     let number = own_number w t (second_passed m h 1 3 (omega arith) (omega arith) cell.0) in
-    let one = ap (λ (k : Counts). ltb 1 k.strong) (sym cell.1) ∙ le-ltb 1 c.in-ok-cell.cell.counts.strong c.if-cell-gt1.false in
-    let more = ap (λ (k : Counts). ltb 1 k.weak) (sym cell.1) ∙ lt-ltb 1 c.in-ok-cell.cell.counts.weak c.if-cell-gt1-2.true in
+    let one = ap (λ (k : Counts). ltb 1 k.strong) (sym cell.1) ∙ le-ltb 1 c.in_ok-cell.cell.counts.strong c.if-cell-gt1.false in
+    let more = ap (λ (k : Counts). ltb 1 k.weak) (sym cell.1) ∙ lt-ltb 1 c.in_ok-cell.cell.counts.weak c.if-cell-gt1-2.true in
     at_false (ltb 1 (at w.rows p).strong) _ _ one (at_true (ltb 1 (at w.rows p).weak) _ _ more (
       past_two m h 1 3 (unfit w (at w.rows p).size ∷ []) (omega arith) (omega arith) cell.0 ∙ told.0,
-      ((ap (λ (n : ℕ). ticket_of n c.in-ok-place-2.place) number, refl), told.1),
+      ((ap (λ (n : ℕ). ticket_of n c.in_ok-place-2.place) number, refl), told.1),
     ))

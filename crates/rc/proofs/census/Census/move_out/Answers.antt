@@ -1,4 +1,4 @@
-use Rattle.std.proofs.Common.{◌≡◌, ℕ, true, not, List, [], set, ap, ◌∙◌, subst, ap₂}
+use Rattle.std.proofs.Common.{ℕ, not, List, [], set, ap, ◌∙◌, subst, ap₂}
 use Rattle.blocks.specs.Meaning.{HandsOut}
 use Rattle.cells.specs.Counts.{shared}
 use Rattle.cells.specs.declared.row.Counts.{Counts}
@@ -13,8 +13,8 @@ returns g c =
     let w = world g.A.Allocator.meaning c.args.self.now in
     let between = world g.A.Allocator.meaning (record { number = c.allocate.new.self.number; store = record { alloc = c.allocate.new.self.store.alloc; table = c.put.new.self } }) in
     let p = c.args.p in
-    let q = c.in-ok-q.q in
-    let told = c.in-ok-q.ensures in
+    let q = c.in_ok-q.q in
+    let told = c.in_ok-q.ensures in
     let block = subst (λ (n : ℕ). HandsOut w.meaning n q between.meaning) (ap (λ (k : Counts). k.size) c.requires) told.0 in (
       past _ 10 [] (ap not block.fitted),
       record {
@@ -25,9 +25,9 @@ returns g c =
           table =
               c.put.ensures.counts
               ∙ ap₂ (λ (ks : List Counts) (k : Counts). set ks q k) told.2
-              (c.into-row.ensures.counts ∙ c.shared-new.ensures.counts ∙ ap (λ (k : Counts). shared k.shape k.size k.standing) c.requires);
+              (c.into_row.ensures.counts ∙ c.shared-new.ensures.counts ∙ ap (λ (k : Counts). shared k.shape k.size k.standing) c.requires);
         };
         left = ap {B = World} (λ (b : Books). after between b) c.retire.ensures.books;
-        memory_after = c.copy-within.ensures ∙ ap (λ (k : Counts). copied c.args.memory.now p q k.standing) c.requires;
+        memory_after = c.copy_within.ensures ∙ ap (λ (k : Counts). copied c.args.memory.now p q k.standing) c.requires;
       },
     )

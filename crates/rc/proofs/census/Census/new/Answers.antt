@@ -13,28 +13,28 @@ use Rattle.rc.proofs.Chains.{passed, past, here}
 use Rattle.references.proofs.Naming.{lacking_all_padded, each_padded}
 use Rattle.rc.proofs.census.Census.new.Goals as goal
 
-pub returns-then-lacks-some : goal.returns-then-lacks-some
-returns-then-lacks-some g c =
+pub returns-then-lacks_some : goal.returns-then-lacks_some
+returns-then-lacks_some g c =
     let w = world g.A.Allocator.meaning c.args.self.now in
     let rs = g.E.Element.refs c.args.x in
     let m = wrong_memory w c.args.memory.now in
     let few = g.met.E.Element.few c.args.x in
     let lack : some_lacking w.rows rs rs ≡ true =
-    sym (lacking_all_padded w.rows rs few) ∙ sym (c.lacks-some.ensures ∙ ap₂ (some_lacking w.rows) c.references-of-rs.ensures c.references-of-rs.ensures) ∙ c.if-lacks-some.true in
-    (past m.0 1 (lacking_references w rs ∷ unfit w 1 ∷ []) (passed m.0 1 c.in-ok-check-memory.ensures.0 (omega arith)) ∙ here _ 7 (unfit w 1 ∷ []) lack, (refl, refl))
+    sym (lacking_all_padded w.rows rs few) ∙ sym (c.lacks_some.ensures ∙ ap₂ (some_lacking w.rows) c.references_of-rs.ensures c.references_of-rs.ensures) ∙ c.if-lacks_some.true in
+    (past m.0 1 (lacking_references w rs ∷ unfit w 1 ∷ []) (passed m.0 1 c.in_ok-check_memory.ensures.0 (omega arith)) ∙ here _ 7 (unfit w 1 ∷ []) lack, (refl, refl))
 
-pub returns-in-err-place : goal.returns-in-err-place
-returns-in-err-place g c =
-    let p = err_from_is_err_and c.from-residual-in-err-place.result c.from-residual-in-err-place.ensures.1 in
+pub returns-in_err-place : goal.returns-in_err-place
+returns-in_err-place g c =
+    let p = err_from_is_err_and c.from_residual-in_err-place.result c.from_residual-in_err-place.ensures.1 in
     let w = world g.A.Allocator.meaning c.args.self.now in
     let rs = g.E.Element.refs c.args.x in
     let m = wrong_memory w c.args.memory.now in
     let few = g.met.E.Element.few c.args.x in
     let fine : some_lacking w.rows rs rs ≡ false =
-    sym (lacking_all_padded w.rows rs few) ∙ sym (c.lacks-some.ensures ∙ ap₂ (some_lacking w.rows) c.references-of-rs.ensures c.references-of-rs.ensures) ∙ c.if-lacks-some.false in
-    let told = c.in-err-place.ensures in
+    sym (lacking_all_padded w.rows rs few) ∙ sym (c.lacks_some.ensures ∙ ap₂ (some_lacking w.rows) c.references_of-rs.ensures c.references_of-rs.ensures) ∙ c.if-lacks_some.false in
+    let told = c.in_err-place.ensures in
     rw (p.1, p.2) (
-      past m.0 1 (lacking_references w rs ∷ unfit w 1 ∷ []) (passed m.0 1 c.in-ok-check-memory.ensures.0 (omega arith))
+      past m.0 1 (lacking_references w rs ∷ unfit w 1 ∷ []) (passed m.0 1 c.in_ok-check_memory.ensures.0 (omega arith))
           ∙ past _ 7 (unfit w 1 ∷ []) fine ∙ here _ 10 [] (ap not told.1) ∙ sym told.0,
       (told.2, refl),
     )
@@ -47,9 +47,9 @@ returns g c =
     let m = wrong_memory w c.args.memory.now in
     let few = g.met.E.Element.few c.args.x in
     let fine : some_lacking w.rows rs rs ≡ false =
-    sym (lacking_all_padded w.rows rs few) ∙ sym (c.lacks-some.ensures ∙ ap₂ (some_lacking w.rows) c.references-of-rs.ensures c.references-of-rs.ensures) ∙ c.if-lacks-some.false in
-    let told = c.in-ok-place.ensures in
-    let p = c.in-ok-place.place in
+    sym (lacking_all_padded w.rows rs few) ∙ sym (c.lacks_some.ensures ∙ ap₂ (some_lacking w.rows) c.references_of-rs.ensures c.references_of-rs.ensures) ∙ c.if-lacks_some.false in
+    let told = c.in_ok-place.ensures in
+    let p = c.in_ok-place.place in
     let at_p : c.of.result.ticket.place ≡ p = ap (λ (t : Ticket). t.place) c.of.ensures.ticket in
     let made : Made w 1 (each held w.rows rs) (shared Single 1 1) p v =
     record {
@@ -58,14 +58,14 @@ returns g c =
       table =
           c.put.ensures.counts
           ∙ ap₂ (λ (ks : List Counts) (k : Counts). set ks p k)
-          (c.hold-all.ensures ∙ ap₂ (each held) told.2 c.references-of-rs.ensures ∙ each_padded held (λ rows. refl) w.rows rs few)
-          (c.into-row.ensures.counts ∙ c.shared-cell.ensures.counts);
+          (c.hold_all.ensures ∙ ap₂ (each held) told.2 c.references_of-rs.ensures ∙ each_padded held (λ rows. refl) w.rows rs few)
+          (c.into_row.ensures.counts ∙ c.shared-cell.ensures.counts);
     } in (
-      past m.0 1 (lacking_references w rs ∷ unfit w 1 ∷ []) (passed m.0 1 c.in-ok-check-memory.ensures.0 (omega arith))
+      past m.0 1 (lacking_references w rs ∷ unfit w 1 ∷ []) (passed m.0 1 c.in_ok-check_memory.ensures.0 (omega arith))
           ∙ past _ 7 (unfit w 1 ∷ []) fine ∙ past _ 10 [] (ap not told.0.fitted),
       (
         (c.of.ensures.ticket ∙ ap₂ ticket_of told.1 (sym at_p), c.of.ensures.unspent),
         subst (λ (q : ℕ). Made w 1 (each held w.rows rs) (shared Single 1 1) q v) (sym at_p) made,
-        c.write-at.ensures ∙ ap (λ (q : ℕ). set c.args.memory.now q c.args.x) (sym at_p),
+        c.write_at.ensures ∙ ap (λ (q : ℕ). set c.args.memory.now q c.args.x) (sym at_p),
       ),
     )

@@ -15,8 +15,8 @@ use Rattle.drive.proofs.loose.make.Goals as goal
 pub settle-place-requires : goal.settle-place-requires
 settle-place-requires g c =
     let m = g.A.Allocator.meaning in
-    let told = c.in-ok-rc.ensures in
-    let rc = c.in-ok-rc.rc in
+    let told = c.in_ok-rc.ensures in
+    let rc = c.in_ok-rc.rc in
     let can = ready m c.args.census.now (g.met.A.Allocator.small c.args.census.now.store.alloc).1 c.requires in
     let u = world m c.new.new.self in
     let new = new_fresh g.E.Element.refs (world m c.args.census.now) u c.args.memory.now c.new.new.memory c.args.x rc can told in
@@ -25,8 +25,8 @@ settle-place-requires g c =
 pub returns : goal.returns
 returns g c =
     let m = g.A.Allocator.meaning in
-    let told = c.in-ok-rc.ensures in
-    let rc = c.in-ok-rc.rc in
+    let told = c.in_ok-rc.ensures in
+    let rc = c.in_ok-rc.rc in
     let w = world m c.args.census.now in
     let can = ready m c.args.census.now (g.met.A.Allocator.small c.args.census.now.store.alloc).1 c.requires in
     let u = world m c.new.new.self in

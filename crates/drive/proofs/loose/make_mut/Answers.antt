@@ -16,15 +16,15 @@ use Rattle.drive.proofs.Held.{at_place, checked_again, rc_held, rc_back}
 use Rattle.drive.proofs.Owned.{declined, accepted, owns, kept}
 use Rattle.drive.proofs.loose.make_mut.Goals as goal
 
-pub returns-in-err-rc : goal.returns-in-err-rc
-returns-in-err-rc g c =
-    let r = err_from_is_err_and c.from-residual.result c.from-residual.ensures.1 in
+pub returns-in_err-rc : goal.returns-in_err-rc
+returns-in_err-rc g c =
+    let r = err_from_is_err_and c.from_residual.result c.from_residual.ensures.1 in
     let w = world g.A.Allocator.meaning c.args.census.now in
     let p = c.args.place in
     let memory = c.args.memory.now in
-    let told = c.in-err-rc.ensures in
+    let told = c.in_err-rc.ensures in
     rw (r.1, r.2) (record {
-      exact = (stopped (wrong_memory w memory ∷ no_loose_strong w p ∷ []) (own_checks g.E.Element.refs (held_strong w p) memory p) c.in-err-rc.field-0.0 told.0, (told.1, refl));
+      exact = (stopped (wrong_memory w memory ∷ no_loose_strong w p ∷ []) (own_checks g.E.Element.refs (held_strong w p) memory p) c.in_err-rc.field-0.0 told.0, (told.1, refl));
       housed = subst AllHoused (sym told.1) c.requires;
     })
 
@@ -35,12 +35,12 @@ settle-own-requires g c =
     let w = world m c.args.census.now in
     let p = c.args.place in
     let memory = c.args.memory.now in
-    let told = c.in-ok-rc.ensures in
-    let u = world m c.rc-from-raw.new.self in
-    let rc = c.in-ok-rc.rc in
+    let told = c.in_ok-rc.ensures in
+    let u = world m c.rc_from_raw.new.self in
+    let rc = c.in_ok-rc.rc in
     let v = world m c.make_mut.new.self in
     let homes = row_kept w u p (hold (at w.rows p)) c.requires (spread w.rows w.meaning.out c.requires p) told.1.1 in
-    let can = ready m c.rc-from-raw.new.self (g.met.A.Allocator.small c.rc-from-raw.new.self.store.alloc).1 homes in
+    let can = ready m c.rc_from_raw.new.self (g.met.A.Allocator.small c.rc_from_raw.new.self.store.alloc).1 homes in
     let held = rc_held w memory p told.0 u told.1.1 rc.ticket told.1.0.0 in
     let done = accepted refs u memory rc v c.make_mut.new.memory c.make_mut.new.rc c.in-Ok.field-0 c.in-Ok.ensures in
     (kept refs u memory rc v c.make_mut.new.memory c.make_mut.new.rc can homes held done.1).0
@@ -50,9 +50,9 @@ settle-requires g c =
     let m = g.A.Allocator.meaning in
     let w = world m c.args.census.now in
     let memory = c.args.memory.now in
-    let told = c.in-ok-rc.ensures in
-    let u = world m c.rc-from-raw.new.self in
-    let rc = c.in-ok-rc.rc in
+    let told = c.in_ok-rc.ensures in
+    let u = world m c.rc_from_raw.new.self in
+    let rc = c.in_ok-rc.rc in
     let v = world m c.make_mut.new.self in
     let same = (declined g.E.Element.refs u memory rc v c.make_mut.new.memory c.make_mut.new.rc c.in-Err.why c.in-Err.ensures).1 in
     let held = rc_held w memory c.args.place told.0 u told.1.1 rc.ticket told.1.0.0 in
@@ -68,15 +68,15 @@ returns-in-Ok g c =
     let p = c.args.place in
     let memory = c.args.memory.now in
     let memory' = c.make_mut.new.memory in
-    let told = c.in-ok-rc.ensures in
-    let u = world m c.rc-from-raw.new.self in
-    let rc = c.in-ok-rc.rc in
+    let told = c.in_ok-rc.ensures in
+    let u = world m c.rc_from_raw.new.self in
+    let rc = c.in_ok-rc.rc in
     let rc' = c.make_mut.new.rc in
     let q = rc'.ticket.place in
     let a = world m c.make_mut.new.self in
     let v = world m c.settle-own.new.census in
     let homes = row_kept w u p (hold (at w.rows p)) c.requires (spread w.rows w.meaning.out c.requires p) told.1.1 in
-    let can = ready m c.rc-from-raw.new.self (g.met.A.Allocator.small c.rc-from-raw.new.self.store.alloc).1 homes in
+    let can = ready m c.rc_from_raw.new.self (g.met.A.Allocator.small c.rc_from_raw.new.self.store.alloc).1 homes in
     let held = rc_held w memory p told.0 u told.1.1 rc.ticket told.1.0.0 in
     let at_p = at_place w memory p told.0 u told.1.1 rc.ticket told.1.0.0 in
     let done = accepted refs u memory rc a memory' rc' c.in-Ok.field-0 c.in-Ok.ensures in
@@ -104,9 +104,9 @@ returns-in-Err g c =
     let w = world m c.args.census.now in
     let p = c.args.place in
     let memory = c.args.memory.now in
-    let told = c.in-ok-rc.ensures in
-    let u = world m c.rc-from-raw.new.self in
-    let rc = c.in-ok-rc.rc in
+    let told = c.in_ok-rc.ensures in
+    let u = world m c.rc_from_raw.new.self in
+    let rc = c.in_ok-rc.rc in
     let back = declined refs u memory rc (world m c.make_mut.new.self) c.make_mut.new.memory c.make_mut.new.rc c.in-Err.why c.in-Err.ensures in
     let at_p = at_place w memory p told.0 u told.1.1 rc.ticket told.1.0.0 in
     let check = checked_again w memory p told.0 u told.1.1 rc.ticket told.1.0.0 (own_checks refs u memory rc.ticket.place) (own_checks refs (held_strong w p) memory p)

@@ -15,9 +15,9 @@ use Rattle.drive.proofs.loose.release_weak.Goals as goal
 pub unreachable-requires : goal.unreachable-requires
 unreachable-requires g c =
     let m = world g.A.Allocator.meaning in
-    let told = c.in-ok-weak.ensures in
+    let told = c.in_ok-weak.ensures in
     let u = m c.weak_from_raw.new.self in
-    let t = c.in-ok-weak.weak.ticket in
+    let t = c.in_ok-weak.weak.ticket in
     unrefused (first (wrong_memory u c.args.memory.now ∷ no_weak u t ∷ [])) c.in-Err.field-0.why
     (weak_held (m c.args.census.now) c.args.memory.now c.args.place told.0 u told.1.1 t told.1.0.0)
     c.in-Err.ensures.0
@@ -27,7 +27,7 @@ returns g c =
     let m = world g.A.Allocator.meaning in
     let w = m c.args.census.now in
     let p = c.args.place in
-    let told = c.in-ok-weak.ensures in
+    let told = c.in_ok-weak.ensures in
     let gone = c.in-Ok.ensures in
     let v = m c.release_weak.new.self in
     let t = c.in-Ok.receipt in

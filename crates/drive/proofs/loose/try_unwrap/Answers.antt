@@ -17,15 +17,15 @@ use Rattle.rc.proofs.Housed.{row_kept, unwrapped_kept, spread}
 use Rattle.drive.proofs.Held.{at_place, held_row, checked_again, rc_held, rc_back}
 use Rattle.drive.proofs.loose.try_unwrap.Goals as goal
 
-pub returns-in-err-rc : goal.returns-in-err-rc
-returns-in-err-rc g c =
-    let r = err_from_is_err_and c.from-residual.result c.from-residual.ensures.1 in
+pub returns-in_err-rc : goal.returns-in_err-rc
+returns-in_err-rc g c =
+    let r = err_from_is_err_and c.from_residual.result c.from_residual.ensures.1 in
     let w = world g.A.Allocator.meaning c.args.census.now in
     let p = c.args.place in
     let memory = c.args.memory.now in
-    let told = c.in-err-rc.ensures in
+    let told = c.in_err-rc.ensures in
     rw (r.1, r.2) (record {
-      exact = (stopped (wrong_memory w memory ∷ no_loose_strong w p ∷ []) (past_memory memory p ∷ slice_cell w p ∷ not_sole w p ∷ []) c.in-err-rc.field-0.0 told.0, told.1);
+      exact = (stopped (wrong_memory w memory ∷ no_loose_strong w p ∷ []) (past_memory memory p ∷ slice_cell w p ∷ not_sole w p ∷ []) c.in_err-rc.field-0.0 told.0, told.1);
       housed = subst AllHoused (sym told.1) c.requires;
     })
 
@@ -36,13 +36,13 @@ rest memory q k = first ((leb (length memory) q, 3) ∷ (is_slice k.shape, 5) �
 pub settle-requires : goal.settle-requires
 settle-requires g c =
     let m = world g.A.Allocator.meaning in
-    let told = c.in-ok-rc.ensures in
+    let told = c.in_ok-rc.ensures in
     let back = c.in-Err.ensures in
     let memory = c.args.memory.now in
-    let rc = c.in-ok-rc.rc in
+    let rc = c.in_ok-rc.rc in
     subst (λ (z : World). AdmitsRc z memory c.in-Err.refused.handle.ticket) (sym back.2)
-    (subst (λ (z : Rc). AdmitsRc (m c.rc-from-raw.new.self) memory z.ticket) (sym back.1)
-    (rc_held (m c.args.census.now) memory c.args.place told.0 (m c.rc-from-raw.new.self) told.1.1 rc.ticket told.1.0.0))
+    (subst (λ (z : Rc). AdmitsRc (m c.rc_from_raw.new.self) memory z.ticket) (sym back.1)
+    (rc_held (m c.args.census.now) memory c.args.place told.0 (m c.rc_from_raw.new.self) told.1.1 rc.ticket told.1.0.0))
 
 pub returns-in-Ok : goal.returns-in-Ok
 unfolding rest
@@ -52,11 +52,11 @@ returns-in-Ok g c =
     let w = m c.args.census.now in
     let p = c.args.place in
     let memory = c.args.memory.now in
-    let told = c.in-ok-rc.ensures in
+    let told = c.in_ok-rc.ensures in
     let out = c.in-Ok.ensures in
-    let u = m c.rc-from-raw.new.self in
+    let u = m c.rc_from_raw.new.self in
     let v = m c.try_unwrap.new.self in
-    let t = c.in-ok-rc.rc.ticket in
+    let t = c.in_ok-rc.rc.ticket in
     let x = c.in-Ok.note in
     let here = held_row w memory p told.0 u told.1.1 t told.1.0.0 in
     let place = at_place w memory p told.0 u told.1.1 t told.1.0.0 in
@@ -78,10 +78,10 @@ returns-in-Err g c =
     let w = m c.args.census.now in
     let p = c.args.place in
     let memory = c.args.memory.now in
-    let told = c.in-ok-rc.ensures in
+    let told = c.in_ok-rc.ensures in
     let back = c.in-Err.ensures in
-    let u = m c.rc-from-raw.new.self in
-    let t = c.in-ok-rc.rc.ticket in
+    let u = m c.rc_from_raw.new.self in
+    let t = c.in_ok-rc.rc.ticket in
     let here = held_row w memory p told.0 u told.1.1 t told.1.0.0 in
     let place = at_place w memory p told.0 u told.1.1 t told.1.0.0 in
     let check = checked_again w memory p told.0 u told.1.1 t told.1.0.0 (past_memory memory t.place ∷ slice_cell u t.place ∷ not_sole u t.place ∷ []) (past_memory memory p ∷ slice_cell w p ∷ not_sole w p ∷ [])

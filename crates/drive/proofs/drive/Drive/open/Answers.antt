@@ -4,5 +4,6 @@ use Rattle.rc.specs.Housed.{AllHoused}
 use Rattle.rc.proofs.Housed.{gathered, housed_none}
 use Rattle.drive.proofs.drive.Drive.open.Goals as goal
 
-pub invariant-of-result : goal.invariant-of-result
-invariant-of-result c = (subst AllHoused (sym c.empty-census.ensures) (gathered (replicate 1024 none) [] (housed_none 1024 [])), tt)
+pub invariant_of-result : goal.invariant_of-result
+invariant_of-result c =
+    record { homes = subst AllHoused (sym c.empty-census.ensures) (gathered (replicate 1024 none) [] (housed_none 1024 [])) }

@@ -1,7 +1,9 @@
 //! Elements handed out of their cells.
 
+ghost use Rattle.std.specs.Prelude.{◌≡◌};
+ghost use Rattle.disposal.specs.Books.{none_yet, closed};
 ghost use Rattle.rc.specs.Ends.{TryUnwrap};
-ghost use Rattle.rc.specs.Worlds.{world};
+ghost use Rattle.rc.specs.Worlds.{world, after, books};
 
 use crate::census::Census;
 use crate::decline::Refused;
@@ -23,7 +25,14 @@ impl<A: Allocator> Census<A> {
         };
         rc.spend();
         loosen_all(&mut self.store.table, &references_of(&x));
-        let _ = self.store.retire(ticket.place as usize);
+        self.give_up(ticket.place);
         Ok(x)
+    }
+
+    /// The owner of the cell at `p`, whose element is handed out, goes with its weak count.
+    fn give_up(&mut self, p: u32)
+        ensures { world A.Allocator.meaning self.new ≡ after (world A.Allocator.meaning self.old) (closed (books (world A.Allocator.meaning self.old) none_yet) p) }
+    {
+        let _ = self.store.retire(p as usize);
     }
 }

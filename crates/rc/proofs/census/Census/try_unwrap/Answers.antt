@@ -1,6 +1,6 @@
 use Rattle.std.proofs.Common.{List, refl, ap, ◌∙◌}
 use Rattle.cells.specs.declared.row.Counts.{Counts}
-use Rattle.disposal.specs.Books.{Books, none_yet, closed}
+use Rattle.disposal.specs.Books.{none_yet, closed}
 use Rattle.references.specs.References.{each, loosened}
 use Rattle.rc.specs.Worlds.{World, world, books, with_rows, after}
 use Rattle.references.proofs.Naming.{each_padded}
@@ -16,7 +16,7 @@ returns g c =
       told.0,
       (
         told.1,
-        ap {B = World} (λ (b : Books). after w b) c.retire.ensures.books
+        c.give_up.ensures
             ∙ ap {B = World} (λ (rows : List Counts). after w (closed (books (with_rows w rows) none_yet) c.args.rc.ticket.place)) loose,
       ),
     )

@@ -8,4 +8,4 @@ mod reference;
 
 pub use letter::Letter;
 pub use note::Note;
-pub use reference::{Element, Reference};
+pub use reference::{Element, Reference, Sort};

@@ -38,10 +38,6 @@ impl Element for Note {
     ghost few = { first_of (Prim.search rules, Prim.grind (arith, Self.row.coded.inj)) };
 
     fn reference(&self, i: usize) -> Reference {
-        if i < 4 {
-            self.references[i]
-        } else {
-            Reference::Empty
-        }
+        self.references.get(i).copied().unwrap_or_default()
     }
 }

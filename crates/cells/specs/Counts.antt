@@ -4,6 +4,8 @@ use Rattle.cells.specs.declared.row.Counts.{Counts}
 use Rattle.cells.specs.declared.row.Shape.{Shape}
 use Rattle.cells.specs.declared.row.Shape.TheVariants.{Single}
 use Rattle.cells.specs.declared.row.State.{State}
+use Rattle.element.specs.declared.reference.Sort.{Sort}
+use Rattle.element.specs.declared.reference.Sort.TheVariants.{Strong, Weak}
 use Rattle.cells.specs.declared.row.State.TheVariants.{Free, Counted, Unique, Cyclic, Building, Disposing}
 
 -- 1 where an owner stands, who has one of the weak counts
@@ -56,6 +58,36 @@ with_loose_strong k n = record { state = k.state; shape = k.shape; strong = k.st
 
 abbrev pub with_loose_weak : Counts → ℕ → Counts
 with_loose_weak k n = record { state = k.state; shape = k.shape; strong = k.strong; weak = k.weak; loose_strong = k.loose_strong; loose_weak = n; size = k.size; standing = k.standing }
+
+-- By the sort of the handles
+
+-- how many there are
+abbrev pub handles : Sort → Counts → ℕ
+handles Strong k = k.strong
+handles Weak k = k.weak
+
+-- how many of them are loose
+abbrev pub loose : Sort → Counts → ℕ
+loose Strong k = k.loose_strong
+loose Weak k = k.loose_weak
+
+abbrev pub with_handles : Sort → Counts → ℕ → Counts
+with_handles Strong k n = with_strong k n
+with_handles Weak k n = with_weak k n
+
+abbrev pub with_loose : Sort → Counts → ℕ → Counts
+with_loose Strong k n = with_loose_strong k n
+with_loose Weak k n = with_loose_weak k n
+
+-- one more handle than the loose ones, and than the owner's
+abbrev pub admits : Sort → Counts → Bool
+admits Strong k = admits_strong k
+admits Weak k = admits_weak k
+
+-- one more can be counted; a strong one only beside another
+abbrev pub may_inc : Sort → Counts → Bool
+may_inc Strong k = nat_lt 0 k.strong && nat_lt k.strong 65535
+may_inc Weak k = nat_lt k.weak 65535
 
 -- an owner stands, and no strong handle but one at most, which is not loose
 abbrev pub last_owner : Counts → Bool

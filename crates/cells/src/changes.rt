@@ -1,26 +1,17 @@
 //! Every change of a cell's counts, by value.
 
-ghost use Rattle.std.specs.Prelude.{◌≡◌, ◌+◌, ◌-◌, true, ◌&&◌, nat_lt};
+ghost use Rattle.std.specs.Prelude.{◌≡◌, ◌+◌, ◌-◌, nat_lt};
 ghost use Rattle.cells.specs.Changes.{Reads, Becomes, Begins};
-ghost use Rattle.cells.specs.Counts.{owner, admits_strong, admits_weak, shared, with_strong, with_weak, with_loose_strong, with_loose_weak, last_owner, dying, ownerless};
+ghost use Rattle.cells.specs.Counts.{shared, handles, loose, with_handles, with_loose, admits, may_inc, last_owner, ownerless};
 ghost use Rattle.cells.specs.Rows.{at_rest};
 
 use crate::cell::Cell;
 use crate::row::{Counts, Link, Row, Shape, State};
-
-/// How many of the weak counts are the owner's: 1 while an owner stands.
-fn owned(counts: &Counts) -> u16
-    ensures { result ≡ owner counts.now }
-{
-    match counts.state {
-        State::Free => 0,
-        State::Counted => { if counts.strong > 0 { 1 } else { 0 } }
-        State::Unique | State::Cyclic | State::Building | State::Disposing => 1,
-    }
-}
+use element::Sort;
 
 impl Cell {
-    /// The cell of a row, if one stands there with its counts in order.
+    /// The cell of a row, if one stands there with its counts in order. That none does is no error, so
+    /// this is no `TryFrom`.
     pub fn of(row: Row) -> Option<Cell>
         ensures { Reads row result }
     {
@@ -29,7 +20,7 @@ impl Cell {
         if counts.state == State::Free {
             return None;
         }
-        let least = u32::from(counts.loose_weak) + u32::from(owned(&counts));
+        let least = u32::from(counts.loose_weak) + u32::from(counts.owner());
         if counts.loose_strong > counts.strong || least > u32::from(counts.weak) {
             return None;
         }
@@ -60,145 +51,68 @@ impl Cell {
         Cell { counts, link }
     }
 
-    /// The row to write back.
-    pub fn into_row(self) -> Row
-        ensures counts { result.counts ≡ self.counts }
-        ensures link { result.link ≡ self.link }
+    /// Whether a handle of the sort that is neither loose nor the owner's can be out.
+    pub fn admits(&self, sort: Sort) -> bool
+        ensures { result ≡ admits sort self.now.counts }
     {
-        Row {
-            counts: self.counts,
-            link: self.link,
-        }
+        let owned = match sort {
+            Sort::Strong => 0,
+            Sort::Weak => self.counts.owner(),
+        };
+        self.counts.loose(sort) < self.counts.handles(sort) - owned
     }
 
-    /// Whether a strong handle that is not loose can be out.
-    pub fn admits_strong(&self) -> bool
-        ensures { result ≡ admits_strong self.now.counts }
+    /// One handle of the sort more, unless the count is full. A strong one comes only beside another.
+    pub fn inc(self, sort: Sort) -> Option<Cell>
+        ensures { Becomes self (may_inc sort self.counts) (with_handles sort self.counts (handles sort self.counts + 1)) result }
     {
-        self.counts.loose_strong < self.counts.strong
-    }
-
-    /// Whether a weak handle that is not loose can be out.
-    pub fn admits_weak(&self) -> bool
-        ensures { result ≡ admits_weak self.now.counts }
-    {
-        self.counts.loose_weak < self.counts.weak - owned(&self.counts)
-    }
-
-    /// One strong handle more, unless there is none or the count is full.
-    pub fn inc_strong(self) -> Option<Cell>
-        ensures { Becomes self (nat_lt 0 self.counts.strong && nat_lt self.counts.strong 65535) (with_strong self.counts (self.counts.strong + 1)) result }
-    {
-        let mut counts = self.counts;
-        if counts.strong == 0 || counts.strong == u16::MAX {
+        if sort == Sort::Strong && self.counts.strong == 0 {
             return None;
         }
-        counts.strong += 1;
+        let n = self.counts.handles(sort).checked_add(1)?;
+        let counts = self.counts.with_handles(sort, n);
         Some(Cell {
             counts,
             link: self.link,
         })
     }
 
-    /// One strong handle less, of those that are not loose.
-    pub fn dec_strong(self) -> Option<Cell>
-        ensures { Becomes self (admits_strong self.counts) (with_strong self.counts (self.counts.strong - 1)) result }
+    /// One handle of the sort less, of those that are neither loose nor the owner's.
+    pub fn dec(self, sort: Sort) -> Option<Cell>
+        ensures { Becomes self (admits sort self.counts) (with_handles sort self.counts (handles sort self.counts - 1)) result }
     {
-        let mut counts = self.counts;
-        if counts.loose_strong >= counts.strong {
+        if !self.admits(sort) {
             return None;
         }
-        counts.strong -= 1;
+        let n = self.counts.handles(sort) - 1;
+        let counts = self.counts.with_handles(sort, n);
         Some(Cell {
             counts,
             link: self.link,
         })
     }
 
-    /// One weak handle more, unless the count is full.
-    pub fn inc_weak(self) -> Option<Cell>
-        ensures { Becomes self (nat_lt self.counts.weak 65535) (with_weak self.counts (self.counts.weak + 1)) result }
+    /// A handle of the sort becomes loose.
+    pub fn loosen(self, sort: Sort) -> Option<Cell>
+        ensures { Becomes self (admits sort self.counts) (with_loose sort self.counts (loose sort self.counts + 1)) result }
     {
-        let mut counts = self.counts;
-        if counts.weak == u16::MAX {
+        if !self.admits(sort) {
             return None;
         }
-        counts.weak += 1;
+        let n = self.counts.loose(sort) + 1;
+        let counts = self.counts.with_loose(sort, n);
         Some(Cell {
             counts,
             link: self.link,
         })
     }
 
-    /// One weak handle less, of those that are neither loose nor the owner's.
-    pub fn dec_weak(self) -> Option<Cell>
-        ensures { Becomes self (admits_weak self.counts) (with_weak self.counts (self.counts.weak - 1)) result }
+    /// A loose handle of the sort becomes a held one.
+    pub fn hold(self, sort: Sort) -> Option<Cell>
+        ensures { Becomes self (nat_lt 0 (loose sort self.counts)) (with_loose sort self.counts (loose sort self.counts - 1)) result }
     {
-        if !self.admits_weak() {
-            return None;
-        }
-        let mut counts = self.counts;
-        counts.weak -= 1;
-        Some(Cell {
-            counts,
-            link: self.link,
-        })
-    }
-
-    /// A strong handle becomes loose.
-    pub fn loosen_strong(self) -> Option<Cell>
-        ensures { Becomes self (admits_strong self.counts) (with_loose_strong self.counts (self.counts.loose_strong + 1)) result }
-    {
-        let mut counts = self.counts;
-        if counts.loose_strong >= counts.strong {
-            return None;
-        }
-        counts.loose_strong += 1;
-        Some(Cell {
-            counts,
-            link: self.link,
-        })
-    }
-
-    /// A loose strong handle becomes a held one.
-    pub fn hold_strong(self) -> Option<Cell>
-        ensures { Becomes self (nat_lt 0 self.counts.loose_strong) (with_loose_strong self.counts (self.counts.loose_strong - 1)) result }
-    {
-        let mut counts = self.counts;
-        if counts.loose_strong == 0 {
-            return None;
-        }
-        counts.loose_strong -= 1;
-        Some(Cell {
-            counts,
-            link: self.link,
-        })
-    }
-
-    /// A weak handle becomes loose.
-    pub fn loosen_weak(self) -> Option<Cell>
-        ensures { Becomes self (admits_weak self.counts) (with_loose_weak self.counts (self.counts.loose_weak + 1)) result }
-    {
-        if !self.admits_weak() {
-            return None;
-        }
-        let mut counts = self.counts;
-        counts.loose_weak += 1;
-        Some(Cell {
-            counts,
-            link: self.link,
-        })
-    }
-
-    /// A loose weak handle becomes a held one.
-    pub fn hold_weak(self) -> Option<Cell>
-        ensures { Becomes self (nat_lt 0 self.counts.loose_weak) (with_loose_weak self.counts (self.counts.loose_weak - 1)) result }
-    {
-        let mut counts = self.counts;
-        if counts.loose_weak == 0 {
-            return None;
-        }
-        counts.loose_weak -= 1;
+        let n = self.counts.loose(sort).checked_sub(1)?;
+        let counts = self.counts.with_loose(sort, n);
         Some(Cell {
             counts,
             link: self.link,
@@ -210,13 +124,15 @@ impl Cell {
     pub fn begin_disposal(self, link: Link) -> Option<Cell>
         ensures { Begins self link result }
     {
-        let mut counts = self.counts;
-        if owned(&counts) == 0 || counts.strong > 1 || counts.loose_strong > 0 {
+        if !self.counts.has_last_owner() {
             return None;
         }
-        counts.state = State::Disposing;
-        counts.strong = 0;
-        counts.standing = 0;
+        let counts = Counts {
+            state: State::Disposing,
+            strong: 0,
+            standing: 0,
+            ..self.counts
+        };
         Some(Cell { counts, link })
     }
 
@@ -224,18 +140,31 @@ impl Cell {
     pub fn retire(self) -> Option<Cell>
         ensures { Becomes self (last_owner self.counts) (ownerless self.counts) result }
     {
-        let mut counts = self.counts;
-        let owner = owned(&counts);
-        if owner == 0 || counts.strong > 1 || counts.loose_strong > 0 {
+        if !self.counts.has_last_owner() {
             return None;
         }
-        counts.state = State::Counted;
-        counts.strong = 0;
-        counts.weak -= owner;
-        counts.standing = 0;
+        let counts = Counts {
+            state: State::Counted,
+            strong: 0,
+            weak: self.counts.weak - 1,
+            standing: 0,
+            ..self.counts
+        };
         Some(Cell {
             counts,
             link: self.link,
         })
+    }
+}
+
+/// The row to write back.
+impl From<Cell> for Row {
+    ghost from_gives = { λ c r. (r.counts ≡ c.counts) × (r.link ≡ c.link) };
+
+    fn from(cell: Cell) -> Row {
+        Row {
+            counts: cell.counts,
+            link: cell.link,
+        }
     }
 }

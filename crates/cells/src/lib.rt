@@ -7,6 +7,7 @@
 
 mod cell;
 mod changes;
+mod counts;
 mod row;
 mod table;
 

@@ -13,19 +13,20 @@ ghost use Rattle.disposal.specs.Walks.{Turns, room, fresh, last, strong_released
 use crate::store::{Receipt, Store};
 use blocks::Allocator;
 use cells::{Cell, Link, Row};
+use element::Sort;
 
 /// The cell of a row with one strong handle less.
 fn without_strong(row: Row) -> Option<Cell>
     ensures { Turns row (admits_strong row.counts) (with_strong row.counts (row.counts.strong - 1)) result }
 {
-    Cell::of(row)?.dec_strong()
+    Cell::of(row)?.dec(Sort::Strong)
 }
 
 /// The cell of a row with one weak handle less.
 fn without_weak(row: Row) -> Option<Cell>
     ensures { Turns row (admits_weak row.counts) (with_weak row.counts (row.counts.weak - 1)) result }
 {
-    Cell::of(row)?.dec_weak()
+    Cell::of(row)?.dec(Sort::Weak)
 }
 
 /// The cell of a row without its last owner.
@@ -57,7 +58,7 @@ impl<A: Allocator> Store<A> {
         ensures links { links_in self.new.table ≡ links_in self.old.table }
     {
         if cell.counts.weak > 0 {
-            self.table.put(p, cell.into_row());
+            self.table.put(p, Row::from(cell));
         } else {
             self.give_back(p, receipt);
         }
@@ -108,7 +109,7 @@ impl<A: Allocator> Store<A> {
         let Some(dying) = cell.begin_disposal(link) else {
             return false;
         };
-        self.table.put(p, dying.into_row());
+        self.table.put(p, Row::from(dying));
         receipt.cells += 1;
         true
     }
@@ -129,7 +130,7 @@ impl<A: Allocator> Store<A> {
         if cell.counts.strong == 0 {
             return self.begin(p, back, receipt);
         }
-        self.table.put(p, cell.into_row());
+        self.table.put(p, Row::from(cell));
         false
     }
 }

@@ -13,7 +13,7 @@ returns-then-cell-gt0 g c =
     let b = books_of g.A.Allocator.meaning c.args.self.now c.args.receipt.now in
     record {
       books =
-          ap (λ ks. record { rows = ks; meaning = b.meaning; receipt = b.receipt }) (c.put.ensures.counts ∙ ap (set (counts_in table) p) c.into_row.ensures.counts)
+          ap (λ ks. record { rows = ks; meaning = b.meaning; receipt = b.receipt }) (c.put.ensures.counts ∙ ap (set (counts_in table) p) c.from.ensures.0)
           ∙ sym (cond-true _ _ _ (lt-ltb 0 c.args.cell.counts.weak c.if-cell-gt0.true));
-      links = c.put.ensures.links ∙ ap (set (links_in table) p) (c.into_row.ensures.link ∙ c.requires.link) ∙ set-get_or (links_in table) p at_rest;
+      links = c.put.ensures.links ∙ ap (set (links_in table) p) (c.from.ensures.1 ∙ c.requires.link) ∙ set-get_or (links_in table) p at_rest;
     }

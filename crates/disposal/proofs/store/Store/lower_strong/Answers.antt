@@ -19,10 +19,10 @@ returns g c =
     record {
       begins = sym f.stays;
       books =
-          ap (λ ks. record { rows = ks; meaning = b.meaning; receipt = b.receipt }) (c.put.ensures.counts ∙ ap (set (counts_in table) p) c.into_row.ensures.counts)
+          ap (λ ks. record { rows = ks; meaning = b.meaning; receipt = b.receipt }) (c.put.ensures.counts ∙ ap (set (counts_in table) p) c.from.ensures.0)
           ∙ sym f.books;
       links =
           c.put.ensures.links
-          ∙ ap (set (links_in table) p) (c.into_row.ensures.link ∙ t.2 ∙ c.get.ensures.link)
+          ∙ ap (set (links_in table) p) (c.from.ensures.1 ∙ t.2 ∙ c.get.ensures.link)
           ∙ set-get_or (links_in table) p at_rest;
     }

@@ -1,15 +1,17 @@
 -- References counted once more, one after the other, and taken back.
-use Rattle.std.proofs.Common.{◌≡◌, ℕ, zero, suc, ◌+◌, ◌-◌, ◌<◌, ◌≤◌, Bool, true, false, ◌||◌, ltb, leb, List, length, set, sym, refl, ap, ◌∙◌, ⊎_elim, add-one, arith}
+use Rattle.std.proofs.Common.{◌≡◌, ℕ, zero, suc, ◌+◌, ◌-◌, ◌<◌, ◌≤◌, true, false, ◌||◌, ltb, leb, Some, List, length, set, sym, refl, ap, ◌∙◌, ⊎_elim, add-one, arith}
 use Rattle.std.proofs.lemmas.List.{get_or-set_same, get_or_past, set-set, set-get_or}
 use Rattle.std.proofs.lemmas.Bool.{cases_Bool, cases_lt, cond-true, cond-false, and_parts, and_from, or_parts, or_left, true≢false, ltb-true, leb-true, lt-ltb, le-leb}
-use Rattle.cells.specs.Counts.{owns, owner, taken, none, is_cell, admits_strong, admits_weak, with_strong, with_weak}
+use Rattle.cells.specs.Counts.{owns, owner, taken, none, is_cell, admits_strong, admits_weak, with_strong, with_weak, admits}
 use Rattle.cells.specs.Rows.{at}
 use Rattle.cells.specs.declared.row.Counts.{Counts}
 use Rattle.cells.specs.declared.row.State.{State}
 use Rattle.cells.specs.declared.row.State.TheVariants.{Free, Counted, Unique, Cyclic, Building, Disposing}
 use Rattle.element.specs.declared.reference.Reference.{Reference}
 use Rattle.element.specs.declared.reference.Reference.TheVariants.{Empty, Strong, Weak}
-use Rattle.references.specs.References.{raised, full, lowered, raised_upto, overflows}
+use Rattle.element.specs.declared.reference.Sort.{Sort}
+use Rattle.element.specs.declared.reference.Sort.TheVariants as sort
+use Rattle.references.specs.References.{changed, one_more, one_less, raised, full, lowered, raised_upto, overflows}
 
 pub upto_none : (f : ℕ → Reference) (rows : List Counts) → raised_upto f 0 rows ≡ rows
 unfolding raised_upto
@@ -76,39 +78,41 @@ weak_still k h =
     (and_from _ _ b.0 (and_from _ _ c.0 (le-leb (k.loose_weak + owner k) (k.weak + 1) (omega arith))))
     (lt-ltb (k.loose_weak + owner k) (k.weak + 1) (omega arith))
 
+still : (s : Sort) (k : Counts) → admits s k ≡ true → admits s (one_more s k) ≡ true
+still sort.Strong k h = strong_still k h
+still sort.Weak k h = weak_still k h
+
+back : (s : Sort) (k : Counts) → one_less s (one_more s k) ≡ k
+back sort.Strong k = ap (with_strong k) (let z : k.strong + 1 - 1 ≡ k.strong = omega arith in z)
+back sort.Weak k = ap (with_weak k) (let z : k.weak + 1 - 1 ≡ k.weak = omega arith in z)
+
+admits_none : (s : Sort) → admits s none ≡ false
+admits_none sort.Strong = refl
+admits_none sort.Weak = refl
+
 -- no cell stands past the end
-within : (P : Counts → Bool) (rows : List Counts) (p : ℕ) → P none ≡ false → P (at rows p) ≡ true → p < length rows
-within P rows p e h =
-    ⊎_elim (λ l. l) (λ l. absurd (true≢false (sym h ∙ ap P (get_or_past rows p none l) ∙ e))) (cases_lt p (length rows))
+within : (s : Sort) (rows : List Counts) (p : ℕ) → admits s (at rows p) ≡ true → p < length rows
+within s rows p h =
+    ⊎_elim (λ l. l) (λ l. absurd (true≢false (sym h ∙ ap (admits s) (get_or_past rows p none l) ∙ admits_none s))) (cases_lt p (length rows))
+
+undone_at : (s : Sort) (rows : List Counts) (p : ℕ)
+    → changed admits one_less (changed admits one_more rows (Some (s, p))) (Some (s, p)) ≡ rows
+undone_at s rows p =
+    ⊎_elim
+    (λ a.
+    let k = at rows p in
+    let up = one_more s k in
+    let here = get_or-set_same rows p up none (within s rows p a) in
+    ap (λ (z : List Counts). changed admits one_less z (Some (s, p))) (cond-true (admits s k) (set rows p up) rows a)
+    ∙ cond-true (admits s (at (set rows p up) p)) _ _ (ap (admits s) here ∙ still s k a)
+    ∙ set-set rows p up _
+    ∙ ap (set rows p) (ap (one_less s) here ∙ back s k)
+    ∙ set-get_or rows p none)
+    (λ a. ap (λ (z : List Counts). changed admits one_less z (Some (s, p))) (cond-false (admits s (at rows p)) _ rows a) ∙ cond-false (admits s (at rows p)) _ rows a)
+    (cases_Bool (admits s (at rows p)))
 
 -- a reference that was counted is taken back
-pub undone : (rows : List Counts) (r : Reference) → full rows r ≡ false → lowered (raised rows r) r ≡ rows
-undone rows Empty h = refl
-undone rows (Strong p) h =
-    ⊎_elim
-    (λ a.
-    let k = at rows p in
-    let up = with_strong k (k.strong + 1) in
-    let l = within admits_strong rows p refl a in
-    let here = get_or-set_same rows p up none l in
-    ap (λ (z : List Counts). lowered z (Strong p)) (cond-true (admits_strong k) (set rows p up) rows a)
-    ∙ cond-true (admits_strong (at (set rows p up) p)) _ _ (ap admits_strong here ∙ strong_still k a)
-    ∙ set-set rows p up _
-    ∙ ap (set rows p) (ap (λ (z : Counts). with_strong z (z.strong - 1)) here ∙ ap (with_strong k) (let z : k.strong + 1 - 1 ≡ k.strong = omega arith in z))
-    ∙ set-get_or rows p none)
-    (λ a. ap (λ (z : List Counts). lowered z (Strong p)) (cond-false (admits_strong (at rows p)) _ rows a) ∙ cond-false (admits_strong (at rows p)) _ rows a)
-    (cases_Bool (admits_strong (at rows p)))
-undone rows (Weak p) h =
-    ⊎_elim
-    (λ a.
-    let k = at rows p in
-    let up = with_weak k (k.weak + 1) in
-    let l = within admits_weak rows p refl a in
-    let here = get_or-set_same rows p up none l in
-    ap (λ (z : List Counts). lowered z (Weak p)) (cond-true (admits_weak k) (set rows p up) rows a)
-    ∙ cond-true (admits_weak (at (set rows p up) p)) _ _ (ap admits_weak here ∙ weak_still k a)
-    ∙ set-set rows p up _
-    ∙ ap (set rows p) (ap (λ (z : Counts). with_weak z (z.weak - 1)) here ∙ ap (with_weak k) (let z : k.weak + 1 - 1 ≡ k.weak = omega arith in z))
-    ∙ set-get_or rows p none)
-    (λ a. ap (λ (z : List Counts). lowered z (Weak p)) (cond-false (admits_weak (at rows p)) _ rows a) ∙ cond-false (admits_weak (at rows p)) _ rows a)
-    (cases_Bool (admits_weak (at rows p)))
+pub undone : (rows : List Counts) (r : Reference) → lowered (raised rows r) r ≡ rows
+undone rows Empty = refl
+undone rows (Strong p) = undone_at sort.Strong rows p
+undone rows (Weak p) = undone_at sort.Weak rows p

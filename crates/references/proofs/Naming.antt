@@ -1,22 +1,11 @@
 -- The references of elements, one more at a time.
-use Rattle.std.proofs.Common.{◌≡◌, ℕ, zero, suc, ◌+◌, ◌<◌, ◌≤◌, true, false, cond, ◌||◌, ltb, List, [], ◌∷◌, ◌++◌, length, get_or, take, refl, ap, ◌∙◌, ap₂, arith}
+use Rattle.std.proofs.Common.{◌≡◌, ℕ, ◌+◌, ◌<◌, ◌≤◌, false, ◌||◌, ltb, List, [], ◌∷◌, ◌++◌, length, get_or, take, refl, ap, ◌∙◌, ap₂, arith}
 use Rattle.std.proofs.lemmas.List.{take_more}
-use Rattle.std.proofs.lemmas.Bool.{or_left, cond-false}
+use Rattle.std.proofs.lemmas.Bool.{cond-false}
 use Rattle.cells.specs.declared.row.Counts.{Counts}
 use Rattle.element.specs.declared.reference.Reference.{Reference}
 use Rattle.element.specs.declared.reference.Reference.TheVariants.{Empty, Strong, Weak}
 use Rattle.references.specs.References.{padded, same, named, loose, lacking, some_lacking, each}
-
-named_push : (r : Reference) (rs : List Reference) (s : Reference) → named r (rs ++ s ∷ []) ≡ named r rs + cond (same r s) 1 0
-named_push r [] s = omega arith
-named_push r (q ∷ rs) s = omega (arith, named_push r rs s)
-
-pub named_more : (r : Reference) (rs : List Reference) (i : ℕ) (d : Reference) → i < length rs → named r (take (i + 1) rs) ≡ named r (take i rs) + cond (same r (get_or rs i d)) 1 0
-named_more r rs i d h = ap (named r) (take_more rs i d h) ∙ named_push r (take i rs) (get_or rs i d)
-
-pub named_bound : (r : Reference) (rs : List Reference) → named r rs ≤ length rs
-named_bound r [] = omega arith
-named_bound r (s ∷ rs) = let h : cond (same r s) 1 0 ≤ 1 = elim (same r s) as (λ b. cond b 1 0 ≤ 1) [ true ↦ omega arith | false ↦ omega arith ] in omega (arith, named_bound r rs)
 
 each_push : (f : List Counts → Reference → List Counts) (rows : List Counts) (rs : List Reference) (s : Reference) → each f rows (rs ++ s ∷ []) ≡ f (each f rows rs) s
 each_push f rows [] s = refl
@@ -25,20 +14,6 @@ each_push f rows (r ∷ rs) s = each_push f (f rows r) rs s
 pub each_more : (f : List Counts → Reference → List Counts) (rows : List Counts) (rs : List Reference) (i : ℕ) (d : Reference) → i < length rs
     → each f rows (take (i + 1) rs) ≡ f (each f rows (take i rs)) (get_or rs i d)
 each_more f rows rs i d h = ap (each f rows) (take_more rs i d h) ∙ each_push f rows (take i rs) (get_or rs i d)
-
-lacking_push : (rows : List Counts) (rs qs : List Reference) (s : Reference) → some_lacking rows rs (qs ++ s ∷ []) ≡ (some_lacking rows rs qs || lacking rows rs s)
-lacking_push rows rs [] s = elim (lacking rows rs s) as (λ b. (b || false) ≡ b) [ true ↦ refl | false ↦ refl ]
-lacking_push rows rs (q ∷ qs) s = elim (lacking rows rs q) as (λ b. (b || some_lacking rows rs (qs ++ s ∷ [])) ≡ ((b || some_lacking rows rs qs) || lacking rows rs s)) [ true ↦ refl | false ↦ lacking_push rows rs qs s ]
-
-pub lacking_more : (rows : List Counts) (rs qs : List Reference) (i : ℕ) (d : Reference) → i < length qs
-    → some_lacking rows rs (take (i + 1) qs) ≡ (some_lacking rows rs (take i qs) || lacking rows rs (get_or qs i d))
-lacking_more rows rs qs i d h = ap (some_lacking rows rs) (take_more qs i d h) ∙ lacking_push rows rs (take i qs) (get_or qs i d)
-
--- one that is lacking among the first is lacking among all
-pub lacking_here : (rows : List Counts) (rs qs : List Reference) (i : ℕ) (d : Reference) → i < length qs → lacking rows rs (get_or qs i d) ≡ true → some_lacking rows rs qs ≡ true
-lacking_here rows rs [] i d h e = absurd (omega arith)
-lacking_here rows rs (q ∷ qs) zero d h e = or_left (lacking rows rs q) (some_lacking rows rs qs) e
-lacking_here rows rs (q ∷ qs) (suc i) d h e = elim (lacking rows rs q) as (λ b. (b || some_lacking rows rs qs) ≡ true) [ true ↦ refl | false ↦ lacking_here rows rs qs i d (omega arith) e ]
 
 -- The missing references are empty, and an empty one changes nothing.
 

@@ -1,10 +1,13 @@
 -- The references of an element: named, taken from the loose handles, made loose, counted once more.
-use Rattle.std.specs.Prelude.{◌≡◌, ℕ, zero, suc, ◌+◌, ◌-◌, ◌/◌, ◌%◌, Bool, true, false, cond, ◌&&◌, ◌||◌, List, [], ◌∷◌, map, ◌==◌, nat_lt, slice_index_or, slice_set}
-use Rattle.cells.specs.Counts.{is_cell, admits_strong, admits_weak, with_strong, with_weak, with_loose_strong, with_loose_weak}
+use Rattle.std.specs.Prelude.{◌≡◌, ℕ, zero, suc, ◌+◌, ◌-◌, ◌/◌, ◌%◌, Bool, true, false, cond, not, ◌&&◌, ◌||◌, List, [], ◌∷◌, map, Some, None, Ok, Err, Option, Result, ◌==◌, nat_lt, count_by, fold, slice_index_or, slice_set}
+use Rattle.std.specs.List.{list_any}
+use Rattle.cells.specs.Counts.{is_cell, handles, loose as loose_of, with_handles, with_loose, admits}
 use Rattle.cells.specs.Rows.{at}
 use Rattle.cells.specs.declared.row.Counts.{Counts}
+use Rattle.element.specs.Handles.{handle_of}
 use Rattle.element.specs.declared.reference.Reference.{Reference}
 use Rattle.element.specs.declared.reference.Reference.TheVariants.{Empty, Strong, Weak}
+use Rattle.element.specs.declared.reference.Sort.{Sort}
 
 -- four references, the missing ones empty
 abbrev pub padded : List Reference → List Reference
@@ -24,65 +27,78 @@ same (Weak p) (Weak q) = p == q
 
 -- how often a list names a reference
 abbrev pub named : Reference → List Reference → ℕ
-named r [] = 0
-named r (s ∷ rs) = cond (same r s) 1 0 + named r rs
+named r rs = count_by (same r) rs
 
 -- how many loose handles of that sort stand at that place
+abbrev pub loose_at : List Counts → Option (Sort × ℕ) → ℕ
+loose_at rows None = 0
+loose_at rows (Some (s, p)) = cond (is_cell (at rows p)) (loose_of s (at rows p)) 0
+
 abbrev pub loose : List Counts → Reference → ℕ
-loose rows Empty = 0
-loose rows (Strong p) = cond (is_cell (at rows p)) (at rows p).loose_strong 0
-loose rows (Weak p) = cond (is_cell (at rows p)) (at rows p).loose_weak 0
+loose rows r = loose_at rows (handle_of r)
 
 -- a reference, not an empty one, that the list names more often than loose ones stand
 abbrev pub lacking : List Counts → List Reference → Reference → Bool
-lacking rows rs Empty = false
-lacking rows rs (Strong p) = nat_lt (loose rows (Strong p)) (named (Strong p) rs)
-lacking rows rs (Weak p) = nat_lt (loose rows (Weak p)) (named (Weak p) rs)
+lacking rows rs r = not (same r Empty) && nat_lt (loose rows r) (named r rs)
 
 -- some reference among these is lacking
 abbrev pub some_lacking : List Counts → List Reference → List Reference → Bool
-some_lacking rows rs [] = false
-some_lacking rows rs (q ∷ qs) = lacking rows rs q || some_lacking rows rs qs
+some_lacking rows rs qs = list_any (lacking rows rs) qs
 
 -- one after the other, in order
 abbrev pub each : (List Counts → Reference → List Counts) → List Counts → List Reference → List Counts
-each f rows [] = rows
-each f rows (r ∷ rs) = each f (f rows r) rs
+each f rows rs = fold f rows rs
+
+-- the counts at the place of a handle change where they pass the test; where there is none, nothing does
+abbrev pub changed : (Sort → Counts → Bool) → (Sort → Counts → Counts) → List Counts → Option (Sort × ℕ) → List Counts
+changed test f rows None = rows
+changed test f rows (Some (s, p)) = cond (test s (at rows p)) (slice_set rows p (f s (at rows p))) rows
+
+-- a loose handle stands there
+abbrev pub has_loose : Sort → Counts → Bool
+has_loose s k = is_cell k && nat_lt 0 (loose_of s k)
+
+-- one handle more or less, and one loose one more or less
+abbrev pub one_more : Sort → Counts → Counts
+one_more s k = with_handles s k (handles s k + 1)
+
+abbrev pub one_less : Sort → Counts → Counts
+one_less s k = with_handles s k (handles s k - 1)
+
+abbrev pub one_looser : Sort → Counts → Counts
+one_looser s k = with_loose s k (loose_of s k + 1)
+
+abbrev pub one_held : Sort → Counts → Counts
+one_held s k = with_loose s k (loose_of s k - 1)
 
 -- a loose handle goes into an element
 abbrev pub held : List Counts → Reference → List Counts
-held rows Empty = rows
-held rows (Strong p) = cond (is_cell (at rows p) && nat_lt 0 (at rows p).loose_strong) (slice_set rows p (with_loose_strong (at rows p) ((at rows p).loose_strong - 1))) rows
-held rows (Weak p) = cond (is_cell (at rows p) && nat_lt 0 (at rows p).loose_weak) (slice_set rows p (with_loose_weak (at rows p) ((at rows p).loose_weak - 1))) rows
+held rows r = changed has_loose one_held rows (handle_of r)
 
 -- a handle of an element becomes loose; one that no cell admits is passed over
 abbrev pub loosened : List Counts → Reference → List Counts
-loosened rows Empty = rows
-loosened rows (Strong p) = cond (admits_strong (at rows p)) (slice_set rows p (with_loose_strong (at rows p) ((at rows p).loose_strong + 1))) rows
-loosened rows (Weak p) = cond (admits_weak (at rows p)) (slice_set rows p (with_loose_weak (at rows p) ((at rows p).loose_weak + 1))) rows
+loosened rows r = changed admits one_looser rows (handle_of r)
 
 -- a copied reference is one handle more; one that no cell admits is passed over
 abbrev pub raised : List Counts → Reference → List Counts
-raised rows Empty = rows
-raised rows (Strong p) = cond (admits_strong (at rows p)) (slice_set rows p (with_strong (at rows p) ((at rows p).strong + 1))) rows
-raised rows (Weak p) = cond (admits_weak (at rows p)) (slice_set rows p (with_weak (at rows p) ((at rows p).weak + 1))) rows
+raised rows r = changed admits one_more rows (handle_of r)
 
 -- and its count is full
+abbrev pub full_at : List Counts → Option (Sort × ℕ) → Bool
+full_at rows None = false
+full_at rows (Some (s, p)) = admits s (at rows p) && handles s (at rows p) == 65535
+
 abbrev pub full : List Counts → Reference → Bool
-full rows Empty = false
-full rows (Strong p) = admits_strong (at rows p) && (at rows p).strong == 65535
-full rows (Weak p) = admits_weak (at rows p) && (at rows p).weak == 65535
+full rows r = full_at rows (handle_of r)
 
 -- what counting one answers and leaves
-abbrev pub Raises : List Counts → Reference → Bool → List Counts → Type 0
-Raises rows r true after = (full rows r ≡ false) × (after ≡ raised rows r)
-Raises rows r false after = (full rows r ≡ true) × (after ≡ rows)
+abbrev pub Raises : {R Q : Type 0} → List Counts → Reference → Result R Q → List Counts → Type 0
+Raises rows r (Ok _) after = (full rows r ≡ false) × (after ≡ raised rows r)
+Raises rows r (Err _) after = (full rows r ≡ true) × (after ≡ rows)
 
 -- a copied reference is taken back
 abbrev pub lowered : List Counts → Reference → List Counts
-lowered rows Empty = rows
-lowered rows (Strong p) = cond (admits_strong (at rows p)) (slice_set rows p (with_strong (at rows p) ((at rows p).strong - 1))) rows
-lowered rows (Weak p) = cond (admits_weak (at rows p)) (slice_set rows p (with_weak (at rows p) ((at rows p).weak - 1))) rows
+lowered rows r = changed admits one_less rows (handle_of r)
 
 -- References copied
 
@@ -101,6 +117,6 @@ overflows f zero rows = false
 overflows f (suc j) rows = overflows f j rows || full (raised_upto f j rows) (f j)
 
 -- what counting them all answers and leaves
-abbrev pub RaisesAll : (ℕ → Reference) → ℕ → List Counts → Bool → List Counts → Type 0
-RaisesAll f n rows true after = (overflows f n rows ≡ false) × (after ≡ raised_upto f n rows)
-RaisesAll f n rows false after = (overflows f n rows ≡ true) × (after ≡ rows)
+abbrev pub RaisesAll : {R Q : Type 0} → (ℕ → Reference) → ℕ → List Counts → Result R Q → List Counts → Type 0
+RaisesAll f n rows (Ok _) after = (overflows f n rows ≡ false) × (after ≡ raised_upto f n rows)
+RaisesAll f n rows (Err _) after = (overflows f n rows ≡ true) × (after ≡ rows)

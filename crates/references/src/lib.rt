@@ -2,10 +2,11 @@
 
 #![tactic(auto)]
 
+mod changed;
 mod copied;
 mod named;
 mod taken;
 
-pub use copied::{lower, lower_all, raise_all};
+pub use copied::{CountFull, lower, lower_all, raise_all};
 pub use named::{lacks_some, references_of};
 pub use taken::{hold_all, loosen_all};

@@ -10,14 +10,14 @@ loop-j-init g c =
     let f = nth g.E.Element.refs c.args.memory.now c.args.from in
     (overflows_none f (counts_in c.args.table.now), sym (upto_none f (counts_in c.args.table.now)))
 
-pub returns-then-not-raise : goal.returns-then-not-raise
-returns-then-not-raise g c =
+pub returns-in-Err : goal.returns-in-Err
+returns-in-Err g c =
     let f = nth g.E.Element.refs c.args.memory.now c.args.from in
     let rows = counts_in c.args.table.now in
     let j = c.loop-j.j in
     let inv = c.loop-j.invariant in
-    let stop = c.if-not-raise.ensures in
-    let same : full (counts_in c.loop-j.table) c.reference_at-r.result ≡ full (raised_upto f j rows) (f j) = ap₂ full inv.1 c.reference_at-r.ensures in
+    let stop = c.in-Err.ensures in
+    let same : full (counts_in c.loop-j.table) c.nth.result ≡ full (raised_upto f j rows) (f j) = ap₂ full inv.1 c.nth.ensures in
     let over = overflows_more f j rows ∙ or_right (overflows f j rows) _ (sym same ∙ stop.0) in
     let le : j + 1 ≤ 4 * c.args.n = omega arith in
     (overflows_up f (j + 1) rows (4 * c.args.n) over le, c.lower_all.ensures rows inv.0 (stop.1 ∙ inv.1))
@@ -28,6 +28,6 @@ loop-j-preserved g c =
     let rows = counts_in c.args.table.now in
     let j = c.loop-j.j in
     let inv = c.loop-j.invariant in
-    let go = c.if-not-raise.ensures in
-    let same : full (counts_in c.loop-j.table) c.reference_at-r.result ≡ full (raised_upto f j rows) (f j) = ap₂ full inv.1 c.reference_at-r.ensures in
-    (overflows_more f j rows ∙ or_from _ _ inv.0 (sym same ∙ go.0), go.1 ∙ ap₂ raised inv.1 c.reference_at-r.ensures ∙ sym (upto_more f j rows))
+    let go = c.in_default.ensures in
+    let same : full (counts_in c.loop-j.table) c.nth.result ≡ full (raised_upto f j rows) (f j) = ap₂ full inv.1 c.nth.ensures in
+    (overflows_more f j rows ∙ or_from _ _ inv.0 (sym same ∙ go.0), go.1 ∙ ap₂ raised inv.1 c.nth.ensures ∙ sym (upto_more f j rows))

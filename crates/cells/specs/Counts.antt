@@ -84,6 +84,23 @@ abbrev pub admits : Sort → Counts → Bool
 admits Strong k = admits_strong k
 admits Weak k = admits_weak k
 
+-- a loose handle stands there
+abbrev pub has_loose : Sort → Counts → Bool
+has_loose s k = is_cell k && nat_lt 0 (loose s k)
+
+-- one handle more or less, and one loose one more or less
+abbrev pub one_more : Sort → Counts → Counts
+one_more s k = with_handles s k (handles s k + 1)
+
+abbrev pub one_less : Sort → Counts → Counts
+one_less s k = with_handles s k (handles s k - 1)
+
+abbrev pub one_looser : Sort → Counts → Counts
+one_looser s k = with_loose s k (loose s k + 1)
+
+abbrev pub one_held : Sort → Counts → Counts
+one_held s k = with_loose s k (loose s k - 1)
+
 -- one more can be counted; a strong one only beside another
 abbrev pub may_inc : Sort → Counts → Bool
 may_inc Strong k = nat_lt 0 k.strong && nat_lt k.strong 65535

@@ -1,8 +1,8 @@
 //! Every change of a cell's counts, by value.
 
-ghost use Rattle.std.specs.Prelude.{◌≡◌, ◌+◌, ◌-◌, nat_lt};
+ghost use Rattle.std.specs.Prelude.{◌≡◌, nat_lt};
 ghost use Rattle.cells.specs.Changes.{Reads, Becomes, Begins};
-ghost use Rattle.cells.specs.Counts.{shared, handles, loose, with_handles, with_loose, admits, may_inc, last_owner, ownerless};
+ghost use Rattle.cells.specs.Counts.{shared, loose, admits, one_more, one_less, one_looser, one_held, may_inc, last_owner, ownerless};
 ghost use Rattle.cells.specs.Rows.{at_rest};
 
 use crate::cell::Cell;
@@ -64,7 +64,7 @@ impl Cell {
 
     /// One handle of the sort more, unless the count is full. A strong one comes only beside another.
     pub fn inc(self, sort: Sort) -> Option<Cell>
-        ensures { Becomes self (may_inc sort self.counts) (with_handles sort self.counts (handles sort self.counts + 1)) result }
+        ensures { Becomes self (may_inc sort self.counts) (one_more sort self.counts) result }
     {
         if sort == Sort::Strong && self.counts.strong == 0 {
             return None;
@@ -79,7 +79,7 @@ impl Cell {
 
     /// One handle of the sort less, of those that are neither loose nor the owner's.
     pub fn dec(self, sort: Sort) -> Option<Cell>
-        ensures { Becomes self (admits sort self.counts) (with_handles sort self.counts (handles sort self.counts - 1)) result }
+        ensures { Becomes self (admits sort self.counts) (one_less sort self.counts) result }
     {
         if !self.admits(sort) {
             return None;
@@ -94,7 +94,7 @@ impl Cell {
 
     /// A handle of the sort becomes loose.
     pub fn loosen(self, sort: Sort) -> Option<Cell>
-        ensures { Becomes self (admits sort self.counts) (with_loose sort self.counts (loose sort self.counts + 1)) result }
+        ensures { Becomes self (admits sort self.counts) (one_looser sort self.counts) result }
     {
         if !self.admits(sort) {
             return None;
@@ -109,7 +109,7 @@ impl Cell {
 
     /// A loose handle of the sort becomes a held one.
     pub fn hold(self, sort: Sort) -> Option<Cell>
-        ensures { Becomes self (nat_lt 0 (loose sort self.counts)) (with_loose sort self.counts (loose sort self.counts - 1)) result }
+        ensures { Becomes self (nat_lt 0 (loose sort self.counts)) (one_held sort self.counts) result }
     {
         let n = self.counts.loose(sort).checked_sub(1)?;
         let counts = self.counts.with_loose(sort, n);

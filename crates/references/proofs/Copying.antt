@@ -2,7 +2,7 @@
 use Rattle.std.proofs.Common.{◌≡◌, ℕ, zero, suc, ◌+◌, ◌-◌, ◌<◌, ◌≤◌, true, false, ◌||◌, ltb, leb, Some, List, length, set, sym, refl, ap, ◌∙◌, ⊎_elim, add-one, arith}
 use Rattle.std.proofs.lemmas.List.{get_or-set_same, get_or_past, set-set, set-get_or}
 use Rattle.std.proofs.lemmas.Bool.{cases_Bool, cases_lt, cond-true, cond-false, and_parts, and_from, or_parts, or_left, true≢false, ltb-true, leb-true, lt-ltb, le-leb}
-use Rattle.cells.specs.Counts.{owns, owner, taken, none, is_cell, admits_strong, admits_weak, with_strong, with_weak, admits}
+use Rattle.cells.specs.Counts.{owns, owner, taken, none, is_cell, admits_strong, admits_weak, with_strong, with_weak, admits, one_more, one_less}
 use Rattle.cells.specs.Rows.{at}
 use Rattle.cells.specs.declared.row.Counts.{Counts}
 use Rattle.cells.specs.declared.row.State.{State}
@@ -11,7 +11,7 @@ use Rattle.element.specs.declared.reference.Reference.{Reference}
 use Rattle.element.specs.declared.reference.Reference.TheVariants.{Empty, Strong, Weak}
 use Rattle.element.specs.declared.reference.Sort.{Sort}
 use Rattle.element.specs.declared.reference.Sort.TheVariants as sort
-use Rattle.references.specs.References.{changed, one_more, one_less, raised, full, lowered, raised_upto, overflows}
+use Rattle.references.specs.References.{changed, raised, full, lowered, raised_upto, overflows}
 
 pub upto_none : (f : ℕ → Reference) (rows : List Counts) → raised_upto f 0 rows ≡ rows
 unfolding raised_upto

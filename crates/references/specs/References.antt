@@ -1,7 +1,7 @@
 -- The references of an element: named, taken from the loose handles, made loose, counted once more.
-use Rattle.std.specs.Prelude.{◌≡◌, ℕ, zero, suc, ◌+◌, ◌-◌, ◌/◌, ◌%◌, Bool, true, false, cond, not, ◌&&◌, ◌||◌, List, [], ◌∷◌, map, Some, None, Ok, Err, Option, Result, ◌==◌, nat_lt, count_by, fold, slice_index_or, slice_set}
+use Rattle.std.specs.Prelude.{◌≡◌, ℕ, zero, suc, ◌+◌, ◌/◌, ◌%◌, Bool, true, false, cond, not, ◌&&◌, ◌||◌, List, [], ◌∷◌, map, Some, None, Ok, Err, Option, Result, ◌==◌, nat_lt, count_by, fold, slice_index_or, slice_set}
 use Rattle.std.specs.List.{list_any}
-use Rattle.cells.specs.Counts.{is_cell, handles, loose as loose_of, with_handles, with_loose, admits}
+use Rattle.cells.specs.Counts.{is_cell, handles, loose as loose_of, admits, has_loose, one_more, one_less, one_looser, one_held}
 use Rattle.cells.specs.Rows.{at}
 use Rattle.cells.specs.declared.row.Counts.{Counts}
 use Rattle.element.specs.Handles.{handle_of}
@@ -53,23 +53,6 @@ each f rows rs = fold f rows rs
 abbrev pub changed : (Sort → Counts → Bool) → (Sort → Counts → Counts) → List Counts → Option (Sort × ℕ) → List Counts
 changed test f rows None = rows
 changed test f rows (Some (s, p)) = cond (test s (at rows p)) (slice_set rows p (f s (at rows p))) rows
-
--- a loose handle stands there
-abbrev pub has_loose : Sort → Counts → Bool
-has_loose s k = is_cell k && nat_lt 0 (loose_of s k)
-
--- one handle more or less, and one loose one more or less
-abbrev pub one_more : Sort → Counts → Counts
-one_more s k = with_handles s k (handles s k + 1)
-
-abbrev pub one_less : Sort → Counts → Counts
-one_less s k = with_handles s k (handles s k - 1)
-
-abbrev pub one_looser : Sort → Counts → Counts
-one_looser s k = with_loose s k (loose_of s k + 1)
-
-abbrev pub one_held : Sort → Counts → Counts
-one_held s k = with_loose s k (loose_of s k - 1)
 
 -- a loose handle goes into an element
 abbrev pub held : List Counts → Reference → List Counts

@@ -1,5 +1,5 @@
 use Rattle.std.proofs.Common.{rules}
-use Rattle.references.specs.References.{has_loose, one_held}
+use Rattle.cells.specs.Counts.{has_loose, one_held}
 use Rattle.references.proofs.taken.hold_all.Goals as goal
 
 pub returns : goal.returns

@@ -1,6 +1,5 @@
 use Rattle.std.proofs.Common.{rules}
-use Rattle.cells.specs.Counts.{admits}
-use Rattle.references.specs.References.{one_looser}
+use Rattle.cells.specs.Counts.{admits, one_looser}
 use Rattle.references.proofs.taken.loosen_all.Goals as goal
 
 pub returns : goal.returns

@@ -21,7 +21,7 @@ use Rattle.references.specs.References.{each, held, raised, raised_upto, nth}
 use Rattle.rc.specs.Housed.{AllHoused}
 use Rattle.rc.specs.Worlds.{World, world, books}
 use Rattle.rc.specs.declared.census.Census.{Census}
-use Rattle.rc.specs.declared.handle.Rc.{Rc}
+use Rattle.rc.specs.Handles.{Rc}
 use Rattle.rc.proofs.Chains.{head_passed}
 use Rattle.rc.proofs.Housed.{Housed, each_housed, held_housed, spread, made_housed, closed_housed, lowered_housed, upto_housed, choose, home, clear_apart, cell_taken}
 

@@ -1,17 +1,19 @@
 -- What each call answers, and the world that it leaves.
-use Rattle.std.specs.Prelude.{◌≡◌, ℕ, ◌+◌, ◌-◌, ◌<◌, Bool, false, cond, not, List, [], ◌∷◌, take, drop, Some, None, Ok, Err, Option, Result, nat_lt, slice_set}
+use Rattle.std.specs.Prelude.{◌≡◌, ℕ, ◌-◌, ◌<◌, Bool, false, cond, not, List, [], ◌∷◌, take, drop, Some, None, Ok, Err, Option, Result, nat_lt, slice_set}
 use Rattle.std.specs.Borrow.{Bor}
 use Rattle.blocks.specs.Meaning.{HandsOut}
-use Rattle.cells.specs.Counts.{shared, with_strong, with_weak, with_loose_strong, with_loose_weak}
+use Rattle.cells.specs.Counts.{shared, one_more, one_looser, one_held}
 use Rattle.cells.specs.Rows.{at}
 use Rattle.cells.specs.declared.row.Counts.{Counts}
 use Rattle.cells.specs.declared.row.Shape.TheVariants.{Single}
 use Rattle.element.specs.declared.reference.Reference.{Reference}
+use Rattle.element.specs.declared.reference.Sort.{Sort}
+use Rattle.element.specs.declared.reference.Sort.TheVariants as sort
 use Rattle.rc.specs.declared.decline.Decline.{Decline}
 use Rattle.rc.specs.declared.decline.Refused.{Refused}
-use Rattle.rc.specs.declared.handle.Rc.{Rc}
+use Rattle.rc.specs.Handles.{Rc}
 use Rattle.rc.specs.declared.handle.Ticket.{Ticket}
-use Rattle.rc.specs.declared.handle.Weak.{Weak}
+use Rattle.rc.specs.Handles.{Weak}
 use Rattle.rc.specs.Checks.{Answers, Spends, wrong_memory, no_rc, no_weak, no_loose_strong, no_loose_weak, no_strong, full_strong, full_weak}
 use Rattle.rc.specs.Declines.{number_of}
 use Rattle.references.specs.References.{some_lacking, each, held}
@@ -49,19 +51,26 @@ IsWeak w p weak = (weak.ticket ≡ weak_at w.number p) × (weak.spent ≡ false)
 
 -- Raw and back
 
+-- a handle of the sort at p becomes loose, and a loose one is held again
+abbrev pub loosened_at : Sort → World → ℕ → World
+loosened_at s w p = with_row w p (one_looser s (at w.rows p))
+
+abbrev pub held_at : Sort → World → ℕ → World
+held_at s w p = with_row w p (one_held s (at w.rows p))
+
 abbrev pub loosened_strong : World → ℕ → World
-loosened_strong w p = with_row w p (with_loose_strong (at w.rows p) ((at w.rows p).loose_strong + 1))
+loosened_strong w p = loosened_at sort.Strong w p
 
 abbrev pub held_strong : World → ℕ → World
-held_strong w p = with_row w p (with_loose_strong (at w.rows p) ((at w.rows p).loose_strong - 1))
+held_strong w p = held_at sort.Strong w p
 
 abbrev pub loosened_weak : World → Option ℕ → World
 loosened_weak w None = w
-loosened_weak w (Some p) = with_row w p (with_loose_weak (at w.rows p) ((at w.rows p).loose_weak + 1))
+loosened_weak w (Some p) = loosened_at sort.Weak w p
 
 abbrev pub held_weak : World → Option ℕ → World
 held_weak w None = w
-held_weak w (Some p) = with_row w p (with_loose_weak (at w.rows p) ((at w.rows p).loose_weak - 1))
+held_weak w (Some p) = held_at sort.Weak w p
 
 abbrev pub RcIntoRaw : {E : Type 0} → World → List E → Rc → Result ℕ (Refused Rc) → World → Type 0
 RcIntoRaw w memory rc r v =
@@ -91,7 +100,7 @@ WeakFromRaw w memory p r v =
 abbrev pub Increment : {E : Type 0} → World → List E → ℕ → Result (Unit {0}) Decline → World → Type 0
 Increment w memory p r v =
     Answers (wrong_memory w memory ∷ no_strong w p ∷ full_strong w p ∷ []) r
-    (λ _. v ≡ with_row w p (with_loose_strong (with_strong (at w.rows p) ((at w.rows p).strong + 1)) ((at w.rows p).loose_strong + 1)))
+    (λ _. v ≡ with_row w p (one_looser sort.Strong (one_more sort.Strong (at w.rows p))))
     (v ≡ w)
 
 -- Sharing
@@ -99,7 +108,7 @@ Increment w memory p r v =
 abbrev pub Downgrade : {E : Type 0} → World → List E → Ticket → Result Weak Decline → World → Type 0
 Downgrade w memory t r v =
     Answers (wrong_memory w memory ∷ no_rc w t ∷ full_weak w t.place ∷ []) r
-    (λ weak. IsWeak w (Some t.place) weak × (v ≡ with_row w t.place (with_weak (at w.rows t.place) ((at w.rows t.place).weak + 1))))
+    (λ weak. IsWeak w (Some t.place) weak × (v ≡ with_row w t.place (one_more sort.Weak (at w.rows t.place))))
     (v ≡ w)
 
 -- the strong handles of the cell that a `Weak` is of; none for an empty one
@@ -112,7 +121,7 @@ abbrev pub Upgraded : World → Option Ticket → Option Rc → World → Type 0
 Upgraded w t None v = (weak_counts (λ k. k.strong) w t ≡ 0) × (v ≡ w)
 Upgraded w None (Some rc) v = ⊥
 Upgraded w (Some t) (Some rc) v =
-    (0 < (at w.rows t.place).strong) × IsRc w t.place rc × (v ≡ with_row w t.place (with_strong (at w.rows t.place) ((at w.rows t.place).strong + 1)))
+    (0 < (at w.rows t.place).strong) × IsRc w t.place rc × (v ≡ with_row w t.place (one_more sort.Strong (at w.rows t.place)))
 
 abbrev pub Upgrade : {E : Type 0} → World → List E → Option Ticket → Result (Option Rc) Decline → World → Type 0
 Upgrade w memory t r v =

@@ -1,5 +1,5 @@
 -- What the calls answer that end a handle, take an element out or make one's own cell.
-use Rattle.std.specs.Prelude.{◌≡◌, ℕ, zero, suc, ◌+◌, ◌*◌, Bool, List, [], ◌∷◌, take, drop, Some, None, MatchBool, Option, Result, nat_lt, slice_set}
+use Rattle.std.specs.Prelude.{◌≡◌, ℕ, zero, suc, ◌+◌, ◌*◌, Bool, true, false, List, [], ◌∷◌, take, drop, Some, None, MatchBool, Option, Result, nat_lt, slice_set}
 use Rattle.cells.specs.Counts.{shared}
 use Rattle.cells.specs.Rows.{at}
 use Rattle.disposal.specs.Books.{none_yet, closed, weak_released}
@@ -12,10 +12,13 @@ use Rattle.rc.specs.Checks.{Answers, Spends, wrong_memory, short_list, no_rc, pa
 use Rattle.references.specs.References.{each, loosened, lowered, nth, raised_upto, overflows}
 use Rattle.rc.specs.Tickets.{place_of, ticket_of}
 use Rattle.rc.specs.Worlds.{World, books, with_rows, after}
+use Rattle.cells.specs.declared.row.Counts.{Counts}
+use Rattle.rc.specs.declared.make_mut.Way.{Way}
+use Rattle.rc.specs.declared.make_mut.Way.TheVariants.{Copy, Move, Stay}
 use Rattle.rc.specs.declared.decline.Decline.{Decline}
 use Rattle.rc.specs.declared.decline.Refused.{Refused}
-use Rattle.rc.specs.declared.handle.Rc.{Rc}
-use Rattle.rc.specs.declared.handle.Weak.{Weak}
+use Rattle.rc.specs.Handles.{Rc}
+use Rattle.rc.specs.Handles.{Weak}
 
 -- Releases
 
@@ -97,11 +100,17 @@ abbrev pub Moves : {E : Type 0} → World → List E → ℕ → Result ℕ Decl
 Moves w memory p r v memory' =
     Answers (unfit w (at w.rows p).size ∷ []) r (λ q. Moved w memory p q v memory') ((v ≡ w) × (memory' ≡ memory))
 
+-- which of the three it is, by both counts
+abbrev pub IsWay : Counts → Way → Type 0
+IsWay k Copy = nat_lt 1 k.strong ≡ true
+IsWay k Move = (nat_lt 1 k.strong ≡ false) × (nat_lt 1 k.weak ≡ true)
+IsWay k Stay = (nat_lt 1 k.strong ≡ false) × (nat_lt 1 k.weak ≡ false)
+
 -- the handle is of another place now
 abbrev pub MovedTo : World → Rc → Rc → Type 0
 MovedTo w rc rc' = (rc'.ticket ≡ ticket_of w.number rc'.ticket.place) × (rc'.spent ≡ rc.spent)
 
--- which of the three it is, by both counts
+-- what the call answers and leaves, each way
 abbrev pub MakeMut : {E : Type 0} → (E → List Reference) → World → List E → Rc → Result (Unit {0}) Decline → World → List E → Rc → Type 0
 MakeMut refs w memory rc r v memory' rc' =
     MatchBool (nat_lt 1 (at w.rows rc.ticket.place).strong)

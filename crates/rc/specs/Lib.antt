@@ -3,6 +3,7 @@ pub mod Calls
 pub mod Checks
 pub mod Declines
 pub mod Ends
+pub mod Handles
 pub mod Housed
 pub mod Tickets
 pub mod Worlds

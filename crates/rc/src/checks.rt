@@ -1,16 +1,17 @@
 //! The checks of the calls, each in one place.
 
-ghost use Rattle.std.specs.Prelude.{◌≡◌, [], ◌∷◌, take, drop, Some};
+ghost use Rattle.std.specs.Prelude.{◌≡◌, [], ◌∷◌, take, drop};
 ghost use Rattle.cells.specs.Rows.{at};
-ghost use Rattle.rc.specs.Checks.{Answers, wrong_memory, short_list, no_rc, past_memory, no_weak, slice_cell, not_sole, no_loose_strong, no_loose_weak, no_strong};
-ghost use Rattle.rc.specs.Worlds.{world};
+ghost use Rattle.element.specs.declared.reference.Sort.TheVariants.{Strong};
+ghost use Rattle.rc.specs.Checks.{Answers, wrong_memory, short_list, no_handle, no_rc, no_weak, no_loose, no_loose_strong, no_strong, past_memory, slice_cell, not_sole};
+ghost use Rattle.rc.specs.Worlds.{world, IsCellOf};
 
 use crate::census::Census;
 use crate::decline::Decline;
 use crate::handle::Ticket;
 use blocks::Allocator;
 use cells::{Cell, Shape};
-use element::Element;
+use element::{Element, Sort};
 
 impl<A: Allocator> Census<A> {
     /// 1: the memory lent is as long as the extent.
@@ -35,100 +36,62 @@ impl<A: Allocator> Census<A> {
         }
     }
 
-    /// 3: a cell of this census admits the `Rc`.
-    pub(crate) fn check_rc(&self, ticket: Ticket) -> Result<Cell, Decline>
-        ensures { Answers (no_rc (world A.Allocator.meaning self.now) ticket ∷ []) result (λ c. c.counts ≡ at (world A.Allocator.meaning self.now).rows ticket.place) (Unit {0}) }
+    /// 3: a cell of this census admits the handle.
+    pub(crate) fn check_handle(&self, sort: Sort, ticket: Ticket) -> Result<Cell, Decline>
+        ensures { Answers (no_handle sort (world A.Allocator.meaning self.now) ticket ∷ []) result (λ c. c.counts ≡ at (world A.Allocator.meaning self.now).rows ticket.place) (Unit {0}) }
     {
         if ticket.census != self.number {
             return Err(Decline::Handle);
         }
-        let Some(cell) = Cell::of(self.store.table.get(ticket.place as usize)) else {
-            return Err(Decline::Handle);
-        };
-        if cell.admits_strong() {
-            Ok(cell)
-        } else {
-            Err(Decline::Handle)
-        }
+        self.cell(ticket.place)
+            .filter(|cell| cell.admits(sort))
+            .ok_or(Decline::Handle)
     }
 
-    /// 3: a cell of this census admits the `Weak`, which is not empty.
-    pub(crate) fn check_weak(&self, ticket: Ticket) -> Result<Cell, Decline>
-        ensures { Answers (no_weak (world A.Allocator.meaning self.now) (Some ticket) ∷ []) result (λ c. c.counts ≡ at (world A.Allocator.meaning self.now).rows ticket.place) (Unit {0}) }
+    /// 4: a handle of the sort is loose at `place`.
+    pub(crate) fn check_loose(&self, sort: Sort, place: u32) -> Result<Cell, Decline>
+        ensures { Answers (no_loose sort (world A.Allocator.meaning self.now) place ∷ []) result (λ c. c.counts ≡ at (world A.Allocator.meaning self.now).rows place) (Unit {0}) }
     {
-        if ticket.census != self.number {
-            return Err(Decline::Handle);
-        }
-        let Some(cell) = Cell::of(self.store.table.get(ticket.place as usize)) else {
-            return Err(Decline::Handle);
-        };
-        if cell.admits_weak() {
-            Ok(cell)
-        } else {
-            Err(Decline::Handle)
-        }
+        self.cell(place)
+            .filter(|cell| cell.counts.loose(sort) > 0)
+            .ok_or(Decline::Loose)
     }
 
-    /// 4: a strong handle is loose at `p`.
-    pub(crate) fn check_loose_strong(&self, p: u32) -> Result<Cell, Decline>
-        ensures { Answers (no_loose_strong (world A.Allocator.meaning self.now) p ∷ []) result (λ c. c.counts ≡ at (world A.Allocator.meaning self.now).rows p) (Unit {0}) }
+    /// 4: a strong handle is out at `place`.
+    pub(crate) fn check_strong(&self, place: u32) -> Result<Cell, Decline>
+        ensures { Answers (no_strong (world A.Allocator.meaning self.now) place ∷ []) result (λ c. c.counts ≡ at (world A.Allocator.meaning self.now).rows place) (Unit {0}) }
     {
-        let Some(cell) = Cell::of(self.store.table.get(p as usize)) else {
-            return Err(Decline::Loose);
-        };
-        if cell.counts.loose_strong > 0 {
-            Ok(cell)
-        } else {
-            Err(Decline::Loose)
-        }
+        self.cell(place)
+            .filter(|cell| cell.counts.strong > 0)
+            .ok_or(Decline::Loose)
     }
 
-    /// 4: a weak handle is loose at `p`.
-    pub(crate) fn check_loose_weak(&self, p: u32) -> Result<Cell, Decline>
-        ensures { Answers (no_loose_weak (world A.Allocator.meaning self.now) (Some p) ∷ []) result (λ c. c.counts ≡ at (world A.Allocator.meaning self.now).rows p) (Unit {0}) }
-    {
-        let Some(cell) = Cell::of(self.store.table.get(p as usize)) else {
-            return Err(Decline::Loose);
-        };
-        if cell.counts.loose_weak > 0 {
-            Ok(cell)
-        } else {
-            Err(Decline::Loose)
-        }
-    }
-
-    /// 4: a strong handle is out at `p`.
-    pub(crate) fn check_strong(&self, p: u32) -> Result<Cell, Decline>
-        ensures { Answers (no_strong (world A.Allocator.meaning self.now) p ∷ []) result (λ c. c.counts ≡ at (world A.Allocator.meaning self.now).rows p) (Unit {0}) }
-    {
-        let Some(cell) = Cell::of(self.store.table.get(p as usize)) else {
-            return Err(Decline::Loose);
-        };
-        if cell.counts.strong > 0 {
-            Ok(cell)
-        } else {
-            Err(Decline::Loose)
-        }
-    }
-
-    /// 1 and 3, for an `Rc`.
-    pub(crate) fn admit_rc<E: Element>(&self, memory: &[E], ticket: Ticket) -> Result<Cell, Decline>
-        ensures { Answers (wrong_memory (world A.Allocator.meaning self.now) memory.now ∷ no_rc (world A.Allocator.meaning self.now) ticket ∷ []) result (λ c. c.counts ≡ at (world A.Allocator.meaning self.now).rows ticket.place) (Unit {0}) }
+    /// 1 and 3, for a handle that is not empty.
+    pub(crate) fn admit<E: Element>(
+        &self,
+        memory: &[E],
+        sort: Sort,
+        ticket: Ticket,
+    ) -> Result<Cell, Decline>
+        ensures { Answers (wrong_memory (world A.Allocator.meaning self.now) memory.now ∷ no_handle sort (world A.Allocator.meaning self.now) ticket ∷ []) result (λ c. c.counts ≡ at (world A.Allocator.meaning self.now).rows ticket.place) (Unit {0}) }
     {
         self.check_memory(memory)?;
-        self.check_rc(ticket)
+        self.check_handle(sort, ticket)
     }
 
-    /// 1 and 3, for a `Weak` that is not empty.
+    /// 1 and 3, for a `Weak`: its cell, and none of an empty one.
     pub(crate) fn admit_weak<E: Element>(
         &self,
         memory: &[E],
-        ticket: Ticket,
-    ) -> Result<Cell, Decline>
-        ensures { Answers (wrong_memory (world A.Allocator.meaning self.now) memory.now ∷ no_weak (world A.Allocator.meaning self.now) (Some ticket) ∷ []) result (λ c. c.counts ≡ at (world A.Allocator.meaning self.now).rows ticket.place) (Unit {0}) }
+        ticket: Option<Ticket>,
+    ) -> Result<Option<Cell>, Decline>
+        ensures { Answers (wrong_memory (world A.Allocator.meaning self.now) memory.now ∷ no_weak (world A.Allocator.meaning self.now) ticket ∷ []) result (IsCellOf (world A.Allocator.meaning self.now) ticket) (Unit {0}) }
     {
         self.check_memory(memory)?;
-        self.check_weak(ticket)
+        let Some(ticket) = ticket else {
+            return Ok(None);
+        };
+        Ok(Some(self.check_handle(Sort::Weak, ticket)?))
     }
 
     /// 1, 2 and 3, for the release of an `Rc`.
@@ -137,27 +100,12 @@ impl<A: Allocator> Census<A> {
         memory: &[E],
         list: &[E],
         ticket: Ticket,
-    ) -> Result<(), Decline>
+    ) -> Result<Cell, Decline>
         ensures { Answers (wrong_memory (world A.Allocator.meaning self.now) memory.now ∷ short_list (world A.Allocator.meaning self.now) list.now ∷ no_rc (world A.Allocator.meaning self.now) ticket ∷ []) result (λ _. Unit {0}) (Unit {0}) }
     {
         self.check_memory(memory)?;
         self.check_list(list)?;
-        let _cell = self.check_rc(ticket)?;
-        Ok(())
-    }
-
-    /// 1, 2 and 4, for the release of a loose strong handle.
-    pub(crate) fn check_decrement<E: Element>(
-        &self,
-        memory: &[E],
-        list: &[E],
-        place: u32,
-    ) -> Result<Cell, Decline>
-        ensures { Answers (wrong_memory (world A.Allocator.meaning self.now) memory.now ∷ short_list (world A.Allocator.meaning self.now) list.now ∷ no_loose_strong (world A.Allocator.meaning self.now) place ∷ []) result (λ c. c.counts ≡ at (world A.Allocator.meaning self.now).rows place) (Unit {0}) }
-    {
-        self.check_memory(memory)?;
-        self.check_list(list)?;
-        self.check_loose_strong(place)
+        self.check_handle(Sort::Strong, ticket)
     }
 
     /// 1, 3, 5 and 8, for an element to be handed out: the element.
@@ -168,7 +116,7 @@ impl<A: Allocator> Census<A> {
     ) -> Result<E, Decline>
         ensures { Answers (wrong_memory (world A.Allocator.meaning self.now) memory.now ∷ no_rc (world A.Allocator.meaning self.now) ticket ∷ past_memory memory.now ticket.place ∷ slice_cell (world A.Allocator.meaning self.now) ticket.place ∷ not_sole (world A.Allocator.meaning self.now) ticket.place ∷ []) result (λ x. take 1 (drop ticket.place memory.now) ≡ x ∷ []) (Unit {0}) }
     {
-        let cell = self.admit_rc(memory, ticket)?;
+        let cell = self.admit(memory, Sort::Strong, ticket)?;
         let place = ticket.place as usize;
         if place >= memory.len() {
             return Err(Decline::Handle);

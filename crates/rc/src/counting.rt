@@ -10,7 +10,18 @@ use crate::decline::Decline;
 use crate::handle::{Rc, Weak};
 use blocks::Allocator;
 use cells::Counts;
-use element::Element;
+use element::{Element, Sort};
+
+/// The weak handles that are not the owner's, while a strong one is left; 0 after that.
+fn others_alive(counts: Counts) -> u16
+    ensures { result ≡ others_alive counts }
+{
+    if counts.strong > 0 {
+        counts.weak.saturating_sub(1)
+    } else {
+        0
+    }
+}
 
 impl<A: Allocator> Census<A> {
     /// What the census has stored for a place, for programs that show it.
@@ -24,8 +35,7 @@ impl<A: Allocator> Census<A> {
     pub fn rc_strong_count<E: Element>(&self, memory: &[E], rc: &Rc) -> Result<u16, Decline>
         ensures { RcCount (λ k. k.strong) (world A.Allocator.meaning self.now) memory.now rc.now.ticket result }
     {
-        self.check_memory(memory)?;
-        let cell = self.check_rc(rc.ticket)?;
+        let cell = self.admit(memory, Sort::Strong, rc.ticket)?;
         Ok(cell.counts.strong)
     }
 
@@ -33,8 +43,7 @@ impl<A: Allocator> Census<A> {
     pub fn rc_weak_count<E: Element>(&self, memory: &[E], rc: &Rc) -> Result<u16, Decline>
         ensures { RcCount others (world A.Allocator.meaning self.now) memory.now rc.now.ticket result }
     {
-        self.check_memory(memory)?;
-        let cell = self.check_rc(rc.ticket)?;
+        let cell = self.admit(memory, Sort::Strong, rc.ticket)?;
         Ok(cell.counts.weak.saturating_sub(1))
     }
 
@@ -42,12 +51,8 @@ impl<A: Allocator> Census<A> {
     pub fn weak_strong_count<E: Element>(&self, memory: &[E], weak: &Weak) -> Result<u16, Decline>
         ensures { WeakCount (λ k. k.strong) (world A.Allocator.meaning self.now) memory.now weak.now.ticket result }
     {
-        self.check_memory(memory)?;
-        let Some(ticket) = weak.ticket else {
-            return Ok(0);
-        };
-        let counts = self.check_weak(ticket)?.counts;
-        Ok(counts.strong)
+        let cell = self.admit_weak(memory, weak.ticket)?;
+        Ok(cell.map_or(0, |cell| cell.counts.strong))
     }
 
     /// How many weak handles the cell has while a strong one is left; 0 after that, and for an empty
@@ -55,15 +60,7 @@ impl<A: Allocator> Census<A> {
     pub fn weak_weak_count<E: Element>(&self, memory: &[E], weak: &Weak) -> Result<u16, Decline>
         ensures { WeakCount others_alive (world A.Allocator.meaning self.now) memory.now weak.now.ticket result }
     {
-        self.check_memory(memory)?;
-        let Some(ticket) = weak.ticket else {
-            return Ok(0);
-        };
-        let counts = self.check_weak(ticket)?.counts;
-        if counts.strong > 0 {
-            Ok(counts.weak.saturating_sub(1))
-        } else {
-            Ok(0)
-        }
+        let cell = self.admit_weak(memory, weak.ticket)?;
+        Ok(cell.map_or(0, |cell| others_alive(cell.counts)))
     }
 }

@@ -1,5 +1,10 @@
 //! Declines, and the handle that a declined call hands back.
 
+ghost use Rattle.std.specs.Prelude.{◌≡◌};
+ghost use Rattle.rc.specs.declared.decline.Decline.TheVariants.{Allocator, Count};
+
+use references::CountFull;
+
 /// Why a call is declined. The checks run in this order, and the first that applies decides.
 #[derive(Clone, Copy, PartialEq, Eq, Debug)]
 pub enum Decline {
@@ -23,6 +28,22 @@ pub enum Decline {
     Count,
     /// 10 and 11: the allocator declines.
     Allocator(blocks::Decline),
+}
+
+impl From<blocks::Decline> for Decline {
+    ghost from_gives = { λ why d. d ≡ Allocator why };
+
+    fn from(why: blocks::Decline) -> Decline {
+        Decline::Allocator(why)
+    }
+}
+
+impl From<CountFull> for Decline {
+    ghost from_gives = { λ _ d. d ≡ Count };
+
+    fn from(_full: CountFull) -> Decline {
+        Decline::Count
+    }
 }
 
 /// A handle that comes back from a declined call, and why.

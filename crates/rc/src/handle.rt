@@ -4,7 +4,10 @@
 //! of a census spend one. So no handle is lost and none is used twice.
 
 ghost use Rattle.std.specs.Prelude.{◌≡◌, true, false, None};
+ghost use Rattle.rc.specs.Handles.{SpentOn};
 ghost use Rattle.rc.specs.Tickets.{place_of};
+
+use crate::decline::{Decline, Refused};
 
 /// The cell that a handle is of: the number of its census, and its place.
 #[derive(Clone, Copy, PartialEq, Eq, Debug)]
@@ -13,37 +16,54 @@ pub struct Ticket {
     pub place: u32,
 }
 
-/// A strong handle.
-pub struct Rc {
-    pub(crate) ticket: Ticket,
+/// A token of what a handle is of.
+pub struct Handle<T: Copy> {
+    pub(crate) ticket: T,
     spent: bool,
 }
+
+/// A strong handle.
+pub type Rc = Handle<Ticket>;
 
 /// A weak handle, or an empty one that is of no cell.
-pub struct Weak {
-    pub(crate) ticket: Option<Ticket>,
-    spent: bool,
-}
+pub type Weak = Handle<Option<Ticket>>;
 
-impl Drop for Rc {
+impl<T: Copy> Drop for Handle<T> {
     fn drop(self)
         requires { self.spent ≡ true }
     {
-        let Rc {
+        let Handle {
             ticket: _,
             spent: _,
         } = self;
     }
 }
 
-impl Drop for Weak {
-    fn drop(self)
-        requires { self.spent ≡ true }
+impl<T: Copy> Handle<T> {
+    pub(crate) fn of(ticket: T) -> Handle<T>
+        ensures ticket { result.ticket ≡ ticket }
+        ensures unspent { result.spent ≡ false }
     {
-        let Weak {
-            ticket: _,
-            spent: _,
-        } = self;
+        Handle {
+            ticket,
+            spent: false,
+        }
+    }
+
+    /// Spends the handle on a call that went through; a declined one hands it back.
+    pub(crate) fn spend_on<R>(
+        mut self,
+        outcome: Result<R, Decline>,
+    ) -> Result<R, Refused<Handle<T>>>
+        ensures { SpentOn self outcome result }
+    {
+        match outcome {
+            Ok(answer) => {
+                self.spent = true;
+                Ok(answer)
+            }
+            Err(why) => Err(Refused { handle: self, why }),
+        }
     }
 }
 
@@ -54,20 +74,6 @@ impl Rc {
     {
         self.ticket.place
     }
-
-    pub(crate) fn of(ticket: Ticket) -> Rc
-        ensures ticket { result.ticket ≡ ticket }
-        ensures unspent { result.spent ≡ false }
-    {
-        Rc {
-            ticket,
-            spent: false,
-        }
-    }
-
-    pub(crate) fn spend(mut self) {
-        self.spent = true;
-    }
 }
 
 impl Weak {
@@ -76,33 +82,13 @@ impl Weak {
         ensures ticket { result.ticket ≡ None }
         ensures unspent { result.spent ≡ false }
     {
-        Weak {
-            ticket: None,
-            spent: false,
-        }
+        Handle::of(None)
     }
 
     /// The place of its cell; none for an empty one.
     pub fn place(&self) -> Option<u32>
         ensures { result ≡ place_of self.now.ticket }
     {
-        match self.ticket {
-            None => None,
-            Some(ticket) => Some(ticket.place),
-        }
-    }
-
-    pub(crate) fn of(ticket: Option<Ticket>) -> Weak
-        ensures ticket { result.ticket ≡ ticket }
-        ensures unspent { result.spent ≡ false }
-    {
-        Weak {
-            ticket,
-            spent: false,
-        }
-    }
-
-    pub(crate) fn spend(mut self) {
-        self.spent = true;
+        self.ticket.map(|ticket| ticket.place)
     }
 }

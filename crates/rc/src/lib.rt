@@ -22,4 +22,4 @@ pub use cells::Counts;
 pub use census::Census;
 pub use decline::{Decline, Refused};
 pub use disposal::Receipt;
-pub use handle::{Rc, Ticket, Weak};
+pub use handle::{Handle, Rc, Ticket, Weak};

@@ -8,15 +8,14 @@ use crate::decline::Decline;
 use crate::handle::Rc;
 use crate::part::part;
 use blocks::Allocator;
-use element::Element;
+use element::{Element, Sort};
 
 impl<A: Allocator> Census<A> {
     /// The elements of the cell.
     pub fn look<'a, E: Element>(&self, memory: &'a [E], rc: &Rc) -> Result<&'a [E], Decline>
         ensures { Look (world A.Allocator.meaning self.now) memory.now rc.now.ticket result }
     {
-        self.check_memory(memory)?;
-        let cell = self.check_rc(rc.ticket)?;
+        let cell = self.admit(memory, Sort::Strong, rc.ticket)?;
         Ok(part(
             memory,
             rc.ticket.place as usize,

@@ -5,7 +5,7 @@ ghost use Rattle.rc.specs.Worlds.{world};
 
 use crate::census::Census;
 use crate::decline::Decline;
-use crate::handle::{Rc, Ticket};
+use crate::handle::{Handle, Rc, Ticket};
 use blocks::Allocator;
 use cells::{Cell, Shape};
 use disposal::write_at;
@@ -17,10 +17,8 @@ impl<A: Allocator> Census<A> {
     pub(crate) fn allocate(&mut self, n: u16) -> Result<u32, Decline>
         ensures { Allocated (world A.Allocator.meaning self.old) n result (world A.Allocator.meaning self.new) }
     {
-        match self.store.alloc.allocate(usize::from(n)) {
-            Ok(offset) => Ok(offset as u32),
-            Err(why) => Err(Decline::Allocator(why)),
-        }
+        let offset = self.store.alloc.allocate(usize::from(n))?;
+        Ok(offset as u32)
     }
 
     /// A single cell with `x` in it.
@@ -34,10 +32,9 @@ impl<A: Allocator> Census<A> {
         }
         let place = self.allocate(1)?;
         hold_all(&mut self.store.table, &rs);
-        let cell = Cell::shared(Shape::Single, 1, 1);
-        self.store.table.put(place as usize, cell.into_row());
+        self.put(place, Cell::shared(Shape::Single, 1, 1));
         write_at(memory, place as usize, x);
-        Ok(Rc::of(Ticket {
+        Ok(Handle::of(Ticket {
             census: self.number,
             place,
         }))

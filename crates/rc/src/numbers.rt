@@ -1,16 +1,17 @@
 //! The numbers of the declines.
 
 ghost use Rattle.std.specs.Prelude.{◌≡◌};
-ghost use Rattle.rc.specs.Declines.{number_of};
 
 use crate::decline::Decline;
 
-impl Decline {
-    /// The number by which callers know this decline.
-    pub fn number(self) -> u8
-        ensures { result ≡ number_of self }
-    {
-        match self {
+/// The number by which callers know this decline.
+impl From<Decline> for u8 {
+    ghost use Rattle.rc.specs.Declines.{number_of};
+
+    ghost from_gives = { λ why n. n ≡ number_of why };
+
+    fn from(why: Decline) -> u8 {
+        match why {
             Decline::Memory => 1,
             Decline::List => 2,
             Decline::Handle => 3,

@@ -1,36 +1,56 @@
 //! Handles made raw, and made from raw numbers.
 
-ghost use Rattle.rc.specs.Calls.{RcIntoRaw, RcFromRaw, WeakIntoRaw, WeakFromRaw, Increment};
+ghost use Rattle.std.specs.Prelude.{◌≡◌, [], ◌∷◌};
+ghost use Rattle.rc.specs.Calls.{RcIntoRaw, RcFromRaw, WeakIntoRaw, WeakFromRaw, Increment, loosened_at, held_at};
+ghost use Rattle.rc.specs.Checks.{Answers, wrong_memory, no_handle, no_loose};
+ghost use Rattle.rc.specs.Tickets.{ticket_of};
 ghost use Rattle.rc.specs.Worlds.{world};
 
 use crate::census::Census;
 use crate::decline::{Decline, Refused};
-use crate::handle::{Rc, Ticket, Weak};
+use crate::handle::{Handle, Rc, Ticket, Weak};
 use blocks::Allocator;
-use element::Element;
+use element::{Element, Sort};
 
 impl<A: Allocator> Census<A> {
+    /// Makes a handle loose, and answers its place.
+    fn loosen<E: Element>(
+        &mut self,
+        memory: &[E],
+        sort: Sort,
+        ticket: Ticket,
+    ) -> Result<u32, Decline>
+        ensures { Answers (wrong_memory (world A.Allocator.meaning self.old) memory.now ∷ no_handle sort (world A.Allocator.meaning self.old) ticket ∷ []) result
+            (λ p. (p ≡ ticket.place) × (world A.Allocator.meaning self.new ≡ loosened_at sort (world A.Allocator.meaning self.old) ticket.place))
+            (world A.Allocator.meaning self.new ≡ world A.Allocator.meaning self.old) }
+    {
+        let cell = self.admit(memory, sort, ticket)?;
+        let loose = cell.loosen(sort).ok_or(Decline::Handle)?;
+        self.put(ticket.place, loose);
+        Ok(ticket.place)
+    }
+
+    /// Holds a loose handle again, and answers its ticket.
+    pub(crate) fn hold(&mut self, sort: Sort, place: u32) -> Result<Ticket, Decline>
+        ensures { Answers (no_loose sort (world A.Allocator.meaning self.old) place ∷ []) result
+            (λ t. (t ≡ ticket_of (world A.Allocator.meaning self.old).number place) × (world A.Allocator.meaning self.new ≡ held_at sort (world A.Allocator.meaning self.old) place))
+            (world A.Allocator.meaning self.new ≡ world A.Allocator.meaning self.old) }
+    {
+        let cell = self.check_loose(sort, place)?;
+        let held = cell.hold(sort).ok_or(Decline::Loose)?;
+        self.put(place, held);
+        Ok(Ticket {
+            census: self.number,
+            place,
+        })
+    }
+
     /// Makes the handle loose, and answers its place.
     pub fn rc_into_raw<E: Element>(&mut self, memory: &[E], rc: Rc) -> Result<u32, Refused<Rc>>
         ensures { RcIntoRaw (world A.Allocator.meaning self.old) memory.now rc result (world A.Allocator.meaning self.new) }
     {
-        let ticket = rc.ticket;
-        if let Err(why) = self.check_memory(memory) {
-            return Err(Refused { handle: rc, why });
-        }
-        let cell = match self.check_rc(ticket) {
-            Ok(cell) => cell,
-            Err(why) => return Err(Refused { handle: rc, why }),
-        };
-        let Some(cell) = cell.loosen_strong() else {
-            return Err(Refused {
-                handle: rc,
-                why: Decline::Handle,
-            });
-        };
-        self.store.table.put(ticket.place as usize, cell.into_row());
-        rc.spend();
-        Ok(ticket.place)
+        let place = self.loosen(memory, Sort::Strong, rc.ticket);
+        rc.spend_on(place)
     }
 
     /// The `Rc` of a loose strong handle.
@@ -38,15 +58,7 @@ impl<A: Allocator> Census<A> {
         ensures { RcFromRaw (world A.Allocator.meaning self.old) memory.now place result (world A.Allocator.meaning self.new) }
     {
         self.check_memory(memory)?;
-        let cell = self.check_loose_strong(place)?;
-        let Some(cell) = cell.hold_strong() else {
-            return Err(Decline::Loose);
-        };
-        self.store.table.put(place as usize, cell.into_row());
-        Ok(Rc::of(Ticket {
-            census: self.number,
-            place,
-        }))
+        Ok(Handle::of(self.hold(Sort::Strong, place)?))
     }
 
     /// Makes the handle loose, and answers its place; an empty one becomes the empty reference.
@@ -57,26 +69,11 @@ impl<A: Allocator> Census<A> {
     ) -> Result<Option<u32>, Refused<Weak>>
         ensures { WeakIntoRaw (world A.Allocator.meaning self.old) memory.now weak result (world A.Allocator.meaning self.new) }
     {
-        if let Err(why) = self.check_memory(memory) {
-            return Err(Refused { handle: weak, why });
-        }
-        let Some(ticket) = weak.ticket else {
-            weak.spend();
-            return Ok(None);
+        let place = match weak.ticket {
+            Some(ticket) => self.loosen(memory, Sort::Weak, ticket).map(Some),
+            None => self.check_memory(memory).map(|()| None),
         };
-        let cell = match self.check_weak(ticket) {
-            Ok(cell) => cell,
-            Err(why) => return Err(Refused { handle: weak, why }),
-        };
-        let Some(cell) = cell.loosen_weak() else {
-            return Err(Refused {
-                handle: weak,
-                why: Decline::Handle,
-            });
-        };
-        self.store.table.put(ticket.place as usize, cell.into_row());
-        weak.spend();
-        Ok(Some(ticket.place))
+        weak.spend_on(place)
     }
 
     /// The `Weak` of a loose weak handle; an empty one of the empty reference.
@@ -91,15 +88,7 @@ impl<A: Allocator> Census<A> {
         let Some(place) = place else {
             return Ok(Weak::new());
         };
-        let cell = self.check_loose_weak(place)?;
-        let Some(cell) = cell.hold_weak() else {
-            return Err(Decline::Loose);
-        };
-        self.store.table.put(place as usize, cell.into_row());
-        Ok(Weak::of(Some(Ticket {
-            census: self.number,
-            place,
-        })))
+        Ok(Handle::of(Some(self.hold(Sort::Weak, place)?)))
     }
 
     /// Gives one more strong handle, a loose one, for a cell that has one.
@@ -112,13 +101,9 @@ impl<A: Allocator> Census<A> {
     {
         self.check_memory(memory)?;
         let cell = self.check_strong(place)?;
-        let Some(cell) = cell.inc_strong() else {
-            return Err(Decline::Count);
-        };
-        let Some(cell) = cell.loosen_strong() else {
-            return Err(Decline::Count);
-        };
-        self.store.table.put(place as usize, cell.into_row());
+        let more = cell.inc(Sort::Strong).ok_or(Decline::Count)?;
+        let loose = more.loosen(Sort::Strong).ok_or(Decline::Count)?;
+        self.put(place, loose);
         Ok(())
     }
 }

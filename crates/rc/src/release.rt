@@ -1,16 +1,53 @@
 //! Handles that end.
 
-ghost use Rattle.rc.specs.Ends.{ReleasesRc, ReleasesWeak, Decrement};
+ghost use Rattle.std.specs.Prelude.{◌≡◌, [], ◌∷◌};
+ghost use Rattle.rc.specs.Checks.{Answers, wrong_memory, short_list, no_rc, no_weak};
+ghost use Rattle.rc.specs.Ends.{ReleasesRc, ReleasesWeak, Decrement, Goes, WeakGoes};
+ghost use Rattle.rc.specs.Tickets.{place_of};
 ghost use Rattle.rc.specs.Worlds.{world};
 
 use crate::census::Census;
 use crate::decline::{Decline, Refused};
-use crate::handle::{Rc, Weak};
+use crate::handle::{Rc, Ticket, Weak};
 use blocks::Allocator;
 use disposal::Receipt;
-use element::{Element, Reference};
+use element::{Element, Reference, Sort};
 
 impl<A: Allocator> Census<A> {
+    /// Lets the strong handle of a ticket go.
+    fn give_back<E: Element>(
+        &mut self,
+        memory: &[E],
+        list: &mut [E],
+        ticket: Ticket,
+    ) -> Result<Receipt, Decline>
+        ensures { Answers (wrong_memory (world A.Allocator.meaning self.old) memory.now ∷ short_list (world A.Allocator.meaning self.old) list.old ∷ no_rc (world A.Allocator.meaning self.old) ticket ∷ []) result
+            (λ t. Goes E.Element.refs memory.now ticket.place (world A.Allocator.meaning self.old) list.old t (world A.Allocator.meaning self.new) list.new)
+            ((world A.Allocator.meaning self.new ≡ world A.Allocator.meaning self.old) × (list.new ≡ list.old)) }
+    {
+        self.check_release(memory, list, ticket)?;
+        let gone = Reference::Strong(ticket.place);
+        Ok(self.store.release(memory, list, gone))
+    }
+
+    /// Lets the weak handle of a ticket go, if it has one.
+    fn give_back_weak<E: Element>(
+        &mut self,
+        memory: &[E],
+        ticket: Option<Ticket>,
+    ) -> Result<Receipt, Decline>
+        ensures { Answers (wrong_memory (world A.Allocator.meaning self.old) memory.now ∷ no_weak (world A.Allocator.meaning self.old) ticket ∷ []) result
+            (λ t. WeakGoes (world A.Allocator.meaning self.old) (place_of ticket) t (world A.Allocator.meaning self.new))
+            (world A.Allocator.meaning self.new ≡ world A.Allocator.meaning self.old) }
+    {
+        self.check_memory(memory)?;
+        let Some(ticket) = ticket else {
+            return Ok(Receipt::NOTHING);
+        };
+        self.check_handle(Sort::Weak, ticket)?;
+        Ok(self.store.release_weak(ticket.place as usize))
+    }
+
     /// Lets a strong handle go. With the last one the elements of the cell are disposed of: each is
     /// written to the list, and its references are released.
     pub fn release<E: Element>(
@@ -21,15 +58,8 @@ impl<A: Allocator> Census<A> {
     ) -> Result<Receipt, Refused<Rc>>
         ensures { ReleasesRc E.Element.refs (world A.Allocator.meaning self.old) memory.now list.old rc result (world A.Allocator.meaning self.new) list.new }
     {
-        let ticket = rc.ticket;
-        if let Err(why) = self.check_release(memory, list, ticket) {
-            return Err(Refused { handle: rc, why });
-        }
-        rc.spend();
-        Ok(
-            self.store
-                .release(memory, list, Reference::Strong(ticket.place)),
-        )
+        let receipt = self.give_back(memory, list, rc.ticket);
+        rc.spend_on(receipt)
     }
 
     /// Lets a loose strong handle go, as `release` does.
@@ -41,11 +71,9 @@ impl<A: Allocator> Census<A> {
     ) -> Result<Receipt, Decline>
         ensures { Decrement E.Element.refs (world A.Allocator.meaning self.old) memory.now list.old place result (world A.Allocator.meaning self.new) list.new }
     {
-        let cell = self.check_decrement(memory, list, place)?;
-        let Some(cell) = cell.hold_strong() else {
-            return Err(Decline::Loose);
-        };
-        self.store.table.put(place as usize, cell.into_row());
+        self.check_memory(memory)?;
+        self.check_list(list)?;
+        self.hold(Sort::Strong, place)?;
         Ok(self.store.release(memory, list, Reference::Strong(place)))
     }
 
@@ -57,17 +85,7 @@ impl<A: Allocator> Census<A> {
     ) -> Result<Receipt, Refused<Weak>>
         ensures { ReleasesWeak (world A.Allocator.meaning self.old) memory.now weak result (world A.Allocator.meaning self.new) }
     {
-        if let Err(why) = self.check_memory(memory) {
-            return Err(Refused { handle: weak, why });
-        }
-        let Some(ticket) = weak.ticket else {
-            weak.spend();
-            return Ok(Receipt::NOTHING);
-        };
-        if let Err(why) = self.check_weak(ticket) {
-            return Err(Refused { handle: weak, why });
-        }
-        weak.spend();
-        Ok(self.store.release_weak(ticket.place as usize))
+        let receipt = self.give_back_weak(memory, weak.ticket);
+        weak.spend_on(receipt)
     }
 }

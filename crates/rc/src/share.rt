@@ -5,9 +5,9 @@ ghost use Rattle.rc.specs.Worlds.{world};
 
 use crate::census::Census;
 use crate::decline::Decline;
-use crate::handle::{Rc, Weak};
+use crate::handle::{Handle, Rc, Weak};
 use blocks::Allocator;
-use element::Element;
+use element::{Element, Sort};
 
 impl<A: Allocator> Census<A> {
     /// A weak handle of the cell.
@@ -15,12 +15,10 @@ impl<A: Allocator> Census<A> {
         ensures { Downgrade (world A.Allocator.meaning self.old) memory.now rc.now.ticket result (world A.Allocator.meaning self.new) }
     {
         let ticket = rc.ticket;
-        let cell = self.admit_rc(memory, ticket)?;
-        let Some(cell) = cell.inc_weak() else {
-            return Err(Decline::Count);
-        };
-        self.store.table.put(ticket.place as usize, cell.into_row());
-        Ok(Weak::of(Some(ticket)))
+        let cell = self.admit(memory, Sort::Strong, ticket)?;
+        let more = cell.inc(Sort::Weak).ok_or(Decline::Count)?;
+        self.put(ticket.place, more);
+        Ok(Handle::of(Some(ticket)))
     }
 
     /// An `Rc` of the cell, while it has a strong handle.
@@ -31,14 +29,12 @@ impl<A: Allocator> Census<A> {
         let Some(ticket) = weak.ticket else {
             return Ok(None);
         };
-        let cell = self.check_weak(ticket)?;
+        let cell = self.check_handle(Sort::Weak, ticket)?;
         if cell.counts.strong == 0 {
             return Ok(None);
         }
-        let Some(cell) = cell.inc_strong() else {
-            return Err(Decline::Count);
-        };
-        self.store.table.put(ticket.place as usize, cell.into_row());
-        Ok(Some(Rc::of(ticket)))
+        let more = cell.inc(Sort::Strong).ok_or(Decline::Count)?;
+        self.put(ticket.place, more);
+        Ok(Some(Handle::of(ticket)))
     }
 }

@@ -1,4 +1,4 @@
-use Rattle.std.proofs.Common.{◌≡◌, ℕ, ◌+◌, List, drop, sym, refl, ap, ◌∙◌, ap₂, add-one, arith}
+use Rattle.std.proofs.Common.{◌≡◌, ℕ, ◌+◌, List, drop, sym, refl, ap, ◌∙◌, add-one, arith}
 use Rattle.rc.specs.Ends.{copied, put_first}
 use Rattle.rc.proofs.make_mut.copy_within.Goals as goal
 
@@ -17,9 +17,8 @@ loop-i-preserved g c =
     let q = c.args.to in
     let i = c.loop-i.i in
     c.copy_one.ensures
-    ∙ ap₂ (λ (a b : ℕ). put_first (drop (p + a) c.loop-i.memory) c.loop-i.memory (q + b)) c.from.ensures c.from-in-loop-i.ensures
     ∙ ap (λ (z : List g.row.E.Denot). put_first (drop (p + i) z) z (q + i)) c.loop-i.invariant
     ∙ sym (more memory p q i)
 
 pub returns : goal.returns
-returns g c = c.loop-i.invariant ∙ ap (λ (k : ℕ). copied c.args.memory.now c.args.from c.args.to k) (let z : c.loop-i.i ≡ c.args.n = omega arith in z)
+returns g c = c.loop-i.invariant ∙ ap (λ (k : ℕ). copied c.args.memory.now c.args.from c.args.to k) (let z : c.loop-i.i ≡ c.args.n = omega (arith, c.from-i-end.ensures) in z)

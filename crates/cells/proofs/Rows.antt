@@ -1,5 +1,5 @@
 -- The counts and links of rows, place by place, and the sum of the elements standing.
-use Rattle.std.proofs.Common.{◌≡◌, ℕ, zero, suc, ◌+◌, ◌*◌, ◌<◌, ◌≤◌, true, leb, List, [], ◌∷◌, length, get_or, set, replicate, sym, refl, ap, ◌∙◌, arith}
+use Rattle.std.proofs.Common.{◌≡◌, ℕ, zero, suc, ◌+◌, ◌*◌, ◌<◌, ◌≤◌, true, leb, List, [], ◌∷◌, length, get_or, set, replicate, Option, sym, refl, ap, ◌∙◌, arith}
 use Rattle.std.proofs.lemmas.List.{length-map, get_or-map, get_or_past, map-set, set-get_or}
 use Rattle.std.proofs.lemmas.Bool.{and_parts, and_from, leb-true, le-leb}
 use Rattle.cells.specs.Counts.{none}
@@ -90,4 +90,4 @@ counts_replicate (suc n) r = ap (λ (ks : List Counts). r.counts ∷ ks) (counts
 pub links_replicate : (n : ℕ) (r : Row) → links_of (replicate n r) ≡ replicate n r.link
 unfolding links_of
 links_replicate zero r = refl
-links_replicate (suc n) r = ap (λ (ls : List Link). r.link ∷ ls) (links_replicate n r)
+links_replicate (suc n) r = ap (λ (ls : List (Option Link)). r.link ∷ ls) (links_replicate n r)

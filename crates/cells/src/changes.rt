@@ -51,13 +51,7 @@ impl Cell {
             size,
             standing,
         };
-        let link = Link {
-            back: 1024,
-            next: 0,
-            end: 0,
-            reference: 5,
-        };
-        Cell { counts, link }
+        Cell { counts, link: None }
     }
 
     /// The row to write back.
@@ -217,7 +211,10 @@ impl Cell {
         counts.state = State::Disposing;
         counts.strong = 0;
         counts.standing = 0;
-        Some(Cell { counts, link })
+        Some(Cell {
+            counts,
+            link: Some(link),
+        })
     }
 
     /// The last owner goes with its weak count, and no element is left.

@@ -30,13 +30,7 @@ fn free() -> Row
         size: 0,
         standing: 0,
     };
-    let link = Link {
-        back: 1024,
-        next: 0,
-        end: 0,
-        reference: 5,
-    };
-    Row { counts, link }
+    Row { counts, link: None }
 }
 
 /// Writes a lent row whole, and answers how many elements stood in it.
@@ -50,7 +44,7 @@ fn rewrite(row: &mut Row, new: Row) -> u16
 }
 
 /// Moves the link of a lent row.
-fn relink(row: &mut Row, link: Link)
+fn relink(row: &mut Row, link: Option<Link>)
     ensures counts { row.new.counts ≡ row.old.counts }
     ensures link { row.new.link ≡ link }
 {
@@ -106,7 +100,7 @@ impl Table {
     }
 
     /// Moves the link of the row at `p`.
-    pub fn relink(&mut self, p: usize, link: Link)
+    pub fn relink(&mut self, p: usize, link: Option<Link>)
         ensures counts { counts_of self.new.rows ≡ counts_of self.old.rows }
         ensures links { links_of self.new.rows ≡ slice_set (links_of self.old.rows) p link }
     {

@@ -8,7 +8,6 @@ ghost use Rattle.disposal.specs.Stores.{books_of, world_of, Resting};
 ghost use Rattle.disposal.specs.Walks.{tally};
 
 use crate::store::{Receipt, Store};
-use crate::walk::NOWHERE;
 use blocks::Allocator;
 use element::{Element, Reference};
 
@@ -25,7 +24,7 @@ impl<A: Allocator> Store<A> {
         ensures release { Release E.Element.refs memory.now r (world_of A.Allocator.meaning self.old receipt.old list.old) (world_of A.Allocator.meaning self.new receipt.new list.new) }
         ensures links { Resting (links_in self.old.table) → Resting (links_in self.new.table) }
     {
-        let place = self.lower(r, NOWHERE, receipt);
+        let place = self.lower(r, None, receipt);
         self.walk(memory, list, place, receipt);
     }
 
@@ -46,11 +45,11 @@ impl<A: Allocator> Store<A> {
         ensures links { Resting (links_in self.old.table) → Resting (links_in self.new.table) }
     {
         let mut receipt = Receipt::NOTHING;
-        if !self.begin(p, NOWHERE, &mut receipt) {
+        let Some(place) = self.begin(p, None, &mut receipt) else {
             receipt.strays += 1;
             return receipt;
-        }
-        self.walk(memory, list, p, &mut receipt);
+        };
+        self.walk(memory, list, Some(place), &mut receipt);
         receipt
     }
 

@@ -10,7 +10,7 @@ use Rattle.cells.specs.Rows.{at, at_rest}
 use Rattle.cells.specs.Tables.{counts_in, links_in}
 use Rattle.cells.specs.declared.row.Counts.{Counts}
 use Rattle.cells.specs.declared.row.Link.{Link}
-use Rattle.disposal.specs.Books.{Books, sole, begun}
+use Rattle.disposal.specs.Books.{Books, none_yet, sole, begun}
 use Rattle.disposal.specs.Disposal.{World, Abandons, Release, with_books}
 use Rattle.disposal.specs.Stores.{books_of, world_of, Resting}
 use Rattle.disposal.specs.Walks.{stack_of, released, last, target, entered, onto, Does, disposal, Chain, Idle, todo, pending, fresh, tally}
@@ -80,6 +80,10 @@ when_from false P Q e h = absurd (both_ways false refl e)
 begun_some : {A : Type 0} (t : Bool) (x y : A) → Some x ≡ cond t (Some y) None → t ≡ true
 begun_some true x y e = refl
 begun_some false x y e = absurd (cc)
+
+-- what `default` answers
+pub nothing : (t : Receipt) → (t.listed ≡ 0) × ((t.cells ≡ 0) × ((t.blocks ≡ 0) × (t.strays ≡ 0))) → t ≡ none_yet
+nothing t z = λ i. record { listed = z.0 i; cells = z.1.0 i; blocks = z.1.1.0 i; strays = z.1.1.1 i }
 
 -- the disposal of a cell on its own, where it begins
 pub alone : {A E : Type 0} (m : A → Meaning) (refs : E → List Reference) (few : (x : E) → length (refs x) ≤ 4) (mem xs : List E) (p q : ℕ) (s s' : Store A) (t t' : Receipt)

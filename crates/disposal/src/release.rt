@@ -34,7 +34,7 @@ impl<A: Allocator> Store<A> {
         ensures release { Release E.Element.refs memory.now r (world_of A.Allocator.meaning self.old none_yet list.old) (world_of A.Allocator.meaning self.new result list.new) }
         ensures links { Resting (links_in self.old.table) → Resting (links_in self.new.table) }
     {
-        let mut receipt = Receipt::NOTHING;
+        let mut receipt = Receipt::default();
         self.settle(memory, list, r, &mut receipt);
         receipt
     }
@@ -44,7 +44,7 @@ impl<A: Allocator> Store<A> {
         ensures dispose { Abandons E.Element.refs memory.now p (world_of A.Allocator.meaning self.old none_yet list.old) (world_of A.Allocator.meaning self.new result list.new) }
         ensures links { Resting (links_in self.old.table) → Resting (links_in self.new.table) }
     {
-        let mut receipt = Receipt::NOTHING;
+        let mut receipt = Receipt::default();
         let Some(place) = self.begin(p, None, &mut receipt) else {
             receipt.strays += 1;
             return receipt;
@@ -58,7 +58,7 @@ impl<A: Allocator> Store<A> {
         ensures books { books_of A.Allocator.meaning self.new result ≡ weak_released (books_of A.Allocator.meaning self.old none_yet) p }
         ensures links { links_in self.new.table ≡ links_in self.old.table }
     {
-        let mut receipt = Receipt::NOTHING;
+        let mut receipt = Receipt::default();
         self.lower_weak(p, &mut receipt);
         receipt
     }
@@ -68,7 +68,7 @@ impl<A: Allocator> Store<A> {
         ensures books { books_of A.Allocator.meaning self.new result ≡ closed (books_of A.Allocator.meaning self.old none_yet) p }
         ensures links { links_in self.new.table ≡ links_in self.old.table }
     {
-        let mut receipt = Receipt::NOTHING;
+        let mut receipt = Receipt::default();
         self.close(p, &mut receipt);
         receipt
     }

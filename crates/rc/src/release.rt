@@ -62,7 +62,7 @@ impl<A: Allocator> Census<A> {
         }
         let Some(ticket) = weak.ticket else {
             weak.spend();
-            return Ok(Receipt::NOTHING);
+            return Ok(Receipt::default());
         };
         if let Err(why) = self.check_weak(ticket) {
             return Err(Refused { handle: weak, why });

@@ -1,5 +1,5 @@
 -- How the walk is read while it goes on: its links, the work that they leave, and what a turn does.
-use Rattle.std.specs.Prelude.{◌≡◌, ℕ, ◌+◌, ◌-◌, ◌*◌, ◌^◌, ◌<◌, ◌≤◌, min, Bool, true, false, cond, ◌&&◌, ◌≢◌, List, [], ◌∷◌, ◌++◌, map, take, drop, Some, None, Option, ◌==◌, slice_index_or, slice_set}
+use Rattle.std.specs.Prelude.{◌≡◌, ℕ, ◌+◌, ◌-◌, ◌*◌, ◌^◌, ◌<◌, ◌≤◌, min, Bool, false, cond, ◌&&◌, ◌≢◌, List, [], ◌∷◌, ◌++◌, map, take, drop, Some, None, Option, ◌==◌, slice_index_or, slice_set}
 use Rattle.std.specs.List.{flat_map}
 use Rattle.blocks.specs.Meaning.{Meaning}
 use Rattle.element.specs.declared.reference.Reference.{Reference}
@@ -7,10 +7,8 @@ use Rattle.element.specs.declared.reference.Reference.TheVariants.{Empty, Strong
 use Rattle.cells.specs.Counts.{admits_strong, with_strong}
 use Rattle.cells.specs.Rows.{at, link_at, at_rest}
 use Rattle.cells.specs.Tables.{links_in}
-use Rattle.cells.specs.declared.cell.Cell.{Cell}
 use Rattle.cells.specs.declared.row.Counts.{Counts}
 use Rattle.cells.specs.declared.row.Link.{Link}
-use Rattle.cells.specs.declared.row.Row.{Row}
 use Rattle.disposal.specs.Books.{Books, stray, with_row, begun, closed, weak_released}
 use Rattle.disposal.specs.Disposal.{World, Release, with_books, listing}
 use Rattle.disposal.specs.Stores.{world_of}
@@ -18,11 +16,6 @@ use Rattle.disposal.specs.declared.store.Receipt.{Receipt}
 use Rattle.disposal.specs.declared.store.Store.{Store}
 
 -- Counts
-
--- the cell that a row becomes where the test passes, with its link
-abbrev pub Turns : Row → Bool → Counts → Option Cell → Type 0
-Turns r test k None = test ≡ false
-Turns r test k (Some c) = (test ≡ true) × (c.counts ≡ k) × (c.link ≡ r.link)
 
 abbrev pub tally : Receipt → ℕ
 tally t = t.listed + t.cells + t.blocks + t.strays

@@ -1,40 +1,18 @@
 //! What goes with a count of a cell: its block with the last weak count, its elements with the
 //! last strong one.
 
-ghost use Rattle.std.specs.Prelude.{◌≡◌, ◌-◌, if◌then◌else◌, slice_set};
+ghost use Rattle.std.specs.Prelude.{◌≡◌, if◌then◌else◌, slice_set};
 ghost use Rattle.element.specs.declared.reference.Reference.TheVariants.{Strong};
-ghost use Rattle.cells.specs.Counts.{admits_strong, admits_weak, with_strong, with_weak, ownerless};
 ghost use Rattle.cells.specs.Rows.{at, link_at};
 ghost use Rattle.cells.specs.Tables.{counts_in, links_in};
 ghost use Rattle.disposal.specs.Books.{returned, left_with, sole, begun, closed, weak_released};
 ghost use Rattle.disposal.specs.Stores.{books_of};
-ghost use Rattle.disposal.specs.Walks.{Turns, room, fresh, entered, onto, strong_released};
+ghost use Rattle.disposal.specs.Walks.{room, fresh, entered, onto, strong_released};
 
 use crate::store::{Receipt, Store};
 use crate::walk::REFERENCES;
 use blocks::Allocator;
-use cells::{Cell, Link, Row};
-
-/// The cell of a row with one strong handle less.
-fn without_strong(row: Row) -> Option<Cell>
-    ensures { Turns row (admits_strong row.counts) (with_strong row.counts (row.counts.strong - 1)) result }
-{
-    Cell::of(row)?.dec_strong()
-}
-
-/// The cell of a row with one weak handle less.
-fn without_weak(row: Row) -> Option<Cell>
-    ensures { Turns row (admits_weak row.counts) (with_weak row.counts (row.counts.weak - 1)) result }
-{
-    Cell::of(row)?.dec_weak()
-}
-
-/// The cell of a row without its last owner.
-fn without_owner(row: Row) -> Option<Cell>
-    ensures { Turns row (sole row.counts) (ownerless row.counts) result }
-{
-    Cell::of(row)?.retire()
-}
+use cells::{Cell, Link};
 
 impl<A: Allocator> Store<A> {
     /// The block of the cell at `p` goes back.
@@ -70,7 +48,7 @@ impl<A: Allocator> Store<A> {
         ensures books { books_of A.Allocator.meaning self.new receipt.new ≡ weak_released (books_of A.Allocator.meaning self.old receipt.old) p }
         ensures links { links_in self.new.table ≡ links_in self.old.table }
     {
-        match without_weak(self.table.get(p)) {
+        match Cell::of(self.table.get(p)).and_then(|cell| cell.dec_weak()) {
             Some(cell) => self.leave(p, cell, receipt),
             None => receipt.strays += 1,
         }
@@ -82,7 +60,7 @@ impl<A: Allocator> Store<A> {
         ensures books { books_of A.Allocator.meaning self.new receipt.new ≡ closed (books_of A.Allocator.meaning self.old receipt.old) p }
         ensures links { links_in self.new.table ≡ links_in self.old.table }
     {
-        if let Some(cell) = without_owner(self.table.get(p)) {
+        if let Some(cell) = Cell::of(self.table.get(p)).and_then(|cell| cell.retire()) {
             self.leave(p, cell, receipt);
         }
     }
@@ -132,7 +110,7 @@ impl<A: Allocator> Store<A> {
         ensures links { links_in self.new.table ≡ entered (Strong p) (books_of A.Allocator.meaning self.old receipt.old) (links_in self.old.table) back }
         ensures place { result ≡ onto (Strong p) (books_of A.Allocator.meaning self.old receipt.old) back }
     {
-        let Some(cell) = without_strong(self.table.get(p)) else {
+        let Some(cell) = Cell::of(self.table.get(p)).and_then(|cell| cell.dec_strong()) else {
             receipt.strays += 1;
             return back;
         };

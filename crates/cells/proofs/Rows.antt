@@ -1,6 +1,7 @@
 -- The counts and links of rows, place by place, and the sum of the elements standing.
-use Rattle.std.proofs.Common.{◌≡◌, ℕ, zero, suc, ◌+◌, ◌*◌, ◌<◌, ◌≤◌, true, leb, List, [], ◌∷◌, length, get_or, set, replicate, sym, refl, ap, ◌∙◌, arith}
-use Rattle.std.proofs.lemmas.List.{length-map, get_or-map, get_or_past, map-set, set-get_or}
+use Rattle.std.proofs.Common.{◌≡◌, ℕ, zero, suc, ◌+◌, ◌*◌, ◌<◌, ◌≤◌, true, leb, List, [], ◌∷◌, length, get_or, map, set, replicate, Option, sym, refl, ap, ◌∙◌, arith}
+use Rattle.std.proofs.lemmas.List.{length-map, get_or-map, map-set, set-get_or}
+use Rattle.std.proofs.Math.ListN as whole
 use Rattle.std.proofs.lemmas.Bool.{and_parts, and_from, leb-true, le-leb}
 use Rattle.cells.specs.Counts.{none}
 use Rattle.cells.specs.Rows.{at, link_at, at_rest, counts_of, links_of, standing_in, small}
@@ -26,11 +27,13 @@ pub links_here : (rs : List Row) (p : ℕ) (d : Row) → p < length rs → (get_
 unfolding links_of
 links_here rs p d h = sym (get_or-map (λ (r : Row). r.link) rs p d at_rest h)
 
-pub counts_past : (rs : List Row) (p : ℕ) → length rs ≤ p → none ≡ at (counts_of rs) p
-counts_past rs p h = let l : length (counts_of rs) ≤ p = omega (arith, counts_length rs) in sym (get_or_past (counts_of rs) p none l)
+pub counts_get : (rs : List Row) (p : ℕ) (d : Row) → d.counts ≡ none → (get_or rs p d).counts ≡ at (counts_of rs) p
+unfolding counts_of
+counts_get rs p d e = sym (whole.get_or-map (λ (r : Row). r.counts) rs p d) ∙ ap (get_or (map (λ (r : Row). r.counts) rs) p) e
 
-pub links_past : (rs : List Row) (p : ℕ) → length rs ≤ p → at_rest ≡ link_at (links_of rs) p
-links_past rs p h = let l : length (links_of rs) ≤ p = omega (arith, links_length rs) in sym (get_or_past (links_of rs) p at_rest l)
+pub links_get : (rs : List Row) (p : ℕ) (d : Row) → d.link ≡ at_rest → (get_or rs p d).link ≡ link_at (links_of rs) p
+unfolding links_of
+links_get rs p d e = sym (whole.get_or-map (λ (r : Row). r.link) rs p d) ∙ ap (get_or (map (λ (r : Row). r.link) rs) p) e
 
 pub counts_set : (rs : List Row) (p : ℕ) (r : Row) → counts_of (set rs p r) ≡ set (counts_of rs) p r.counts
 unfolding counts_of
@@ -90,4 +93,4 @@ counts_replicate (suc n) r = ap (λ (ks : List Counts). r.counts ∷ ks) (counts
 pub links_replicate : (n : ℕ) (r : Row) → links_of (replicate n r) ≡ replicate n r.link
 unfolding links_of
 links_replicate zero r = refl
-links_replicate (suc n) r = ap (λ (ls : List Link). r.link ∷ ls) (links_replicate n r)
+links_replicate (suc n) r = ap (λ (ls : List (Option Link)). r.link ∷ ls) (links_replicate n r)

@@ -19,4 +19,4 @@ Becomes c test k (Some d) = (test ≡ true) × (d.counts ≡ k) × (d.link ≡ c
 -- the cell under disposal, with that link
 abbrev pub Begins : Cell → Link → Option Cell → Type 0
 Begins c l None = last_owner c.counts ≡ false
-Begins c l (Some d) = (last_owner c.counts ≡ true) × (d.counts ≡ dying c.counts) × (d.link ≡ l)
+Begins c l (Some d) = (last_owner c.counts ≡ true) × (d.counts ≡ dying c.counts) × (d.link ≡ Some l)

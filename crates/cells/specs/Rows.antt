@@ -1,24 +1,25 @@
 -- The rows of a table by place: the counts and the links apart, and the elements standing in all.
-use Rattle.std.specs.Prelude.{ℕ, ◌+◌, Bool, true, ◌&&◌, List, [], ◌∷◌, map, nat_le, slice_index_or}
+use Rattle.std.specs.Prelude.{ℕ, ◌+◌, Bool, true, ◌&&◌, List, [], ◌∷◌, map, None, Option, nat_le, slice_index_or}
 use Rattle.cells.specs.declared.row.Counts.{Counts}
 use Rattle.cells.specs.declared.row.Link.{Link}
 use Rattle.cells.specs.declared.row.Row.{Row}
 use Rattle.cells.specs.Counts.{none}
 
-abbrev pub at_rest : Link
-at_rest = record { back = 1024; next = 0; end = 0; reference = 5 }
+-- the link of a cell that is not under disposal
+abbrev pub at_rest : Option Link
+at_rest = None
 
 -- no cell stands past the end
 abbrev pub at : List Counts → ℕ → Counts
 at ks p = slice_index_or ks p none
 
-abbrev pub link_at : List Link → ℕ → Link
+abbrev pub link_at : List (Option Link) → ℕ → Option Link
 link_at ls p = slice_index_or ls p at_rest
 
 unfoldable pub counts_of : List Row → List Counts
 counts_of = map (λ r. r.counts)
 
-unfoldable pub links_of : List Row → List Link
+unfoldable pub links_of : List Row → List (Option Link)
 links_of = map (λ r. r.link)
 
 abbrev pub free_row : Row

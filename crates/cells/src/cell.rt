@@ -10,6 +10,7 @@ use crate::row::{Counts, Link};
 #[derive(Clone, Copy)]
 pub struct Cell {
     pub counts: Counts,
-    pub link: Link,
+    /// None where no disposal goes on.
+    pub link: Option<Link>,
     ghost sound: { is_cell counts ≡ true },
 }

@@ -42,13 +42,7 @@ impl Cell {
             size,
             standing,
         };
-        let link = Link {
-            back: 1024,
-            next: 0,
-            end: 0,
-            reference: 5,
-        };
-        Cell { counts, link }
+        Cell { counts, link: None }
     }
 
     /// Whether a handle of the sort that is neither loose nor the owner's can be out.
@@ -133,7 +127,10 @@ impl Cell {
             standing: 0,
             ..self.counts
         };
-        Some(Cell { counts, link })
+        Some(Cell {
+            counts,
+            link: Some(link),
+        })
     }
 
     /// The last owner goes with its weak count, and no element is left.

@@ -44,13 +44,13 @@ pub struct Counts {
 /// Where the disposal of a cell has come to.
 #[derive(Clone, Copy)]
 pub struct Link {
-    /// The cell under disposal that this one was released from; 1024 where there is none.
-    pub back: u16,
+    /// The cell under disposal that this one was released from, if any.
+    pub back: Option<u16>,
     /// The place of the next element to list.
     pub next: u32,
     /// The place after the last element.
     pub end: u32,
-    /// The next reference to release of the element listed last; 4 past the last one, 5 at rest.
+    /// The next reference to release of the element listed last; 4 past the last one.
     pub reference: u8,
 }
 
@@ -58,5 +58,23 @@ pub struct Link {
 #[derive(Clone, Copy)]
 pub struct Row {
     pub counts: Counts,
-    pub link: Link,
+    /// None where no disposal goes on.
+    pub link: Option<Link>,
+}
+
+impl Row {
+    /// What stands where no cell does.
+    pub(crate) const FREE: Row = Row {
+        counts: Counts {
+            state: State::Free,
+            shape: Shape::Single,
+            strong: 0,
+            weak: 0,
+            loose_strong: 0,
+            loose_weak: 0,
+            size: 0,
+            standing: 0,
+        },
+        link: None,
+    };
 }

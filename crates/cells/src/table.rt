@@ -4,7 +4,8 @@ ghost use Rattle.std.specs.Prelude.{◌≡◌, ℕ, ◌+◌, ◌≤◌, true, le
 ghost use Rattle.cells.specs.Counts.{none};
 ghost use Rattle.cells.specs.Rows.{at, link_at, at_rest, counts_of, links_of, standing_in, free_row, small};
 
-use crate::row::{Counts, Link, Row, Shape, State};
+use crate::row::{Link, Row};
+use std::mem;
 
 /// A row for each place that a memory can have, and how many elements stand in all of them.
 #[derive(Drop)]
@@ -16,47 +17,6 @@ pub struct Table {
     ghost sum: { standing ≡ standing_in (counts_of rows) },
 }
 
-/// What stands where no cell does.
-fn free() -> Row
-    ensures { result ≡ free_row }
-{
-    let counts = Counts {
-        state: State::Free,
-        shape: Shape::Single,
-        strong: 0,
-        weak: 0,
-        loose_strong: 0,
-        loose_weak: 0,
-        size: 0,
-        standing: 0,
-    };
-    let link = Link {
-        back: 1024,
-        next: 0,
-        end: 0,
-        reference: 5,
-    };
-    Row { counts, link }
-}
-
-/// Writes a lent row whole, and answers how many elements stood in it.
-fn rewrite(row: &mut Row, new: Row) -> u16
-    ensures standing { result ≡ row.old.counts.standing }
-    ensures after { row.new ≡ new }
-{
-    let standing = row.counts.standing;
-    *row = new;
-    standing
-}
-
-/// Moves the link of a lent row.
-fn relink(row: &mut Row, link: Link)
-    ensures counts { row.new.counts ≡ row.old.counts }
-    ensures link { row.new.link ≡ link }
-{
-    row.link = link;
-}
-
 impl Table {
     /// A table without cells.
     pub fn new() -> Table
@@ -64,7 +24,7 @@ impl Table {
         ensures links { links_of result.rows ≡ replicate 1024 at_rest }
     {
         Table {
-            rows: [free(); 1024],
+            rows: [Row::FREE; 1024],
             standing: 0,
         }
     }
@@ -74,7 +34,7 @@ impl Table {
         ensures counts { result.counts ≡ at (counts_of self.now.rows) p }
         ensures link { result.link ≡ link_at (links_of self.now.rows) p }
     {
-        if p < 1024 { self.rows[p] } else { free() }
+        self.rows.get(p).copied().unwrap_or(Row::FREE)
     }
 
     /// How many elements stand in all cells.
@@ -89,9 +49,11 @@ impl Table {
         ensures counts { counts_of self.new.rows ≡ slice_set (counts_of self.old.rows) p row.counts }
         ensures links { links_of self.new.rows ≡ slice_set (links_of self.old.rows) p row.link }
     {
+        // By index: what `get_mut` lends is not known to come back where it was.
         if p < 1024 {
-            let old = rewrite(&mut self.rows[p], row);
-            self.standing = self.standing - usize::from(old) + usize::from(row.counts.standing);
+            let old = mem::replace(&mut self.rows[p], row);
+            self.standing = self.standing - usize::from(old.counts.standing)
+                + usize::from(row.counts.standing);
         }
     }
 
@@ -100,18 +62,17 @@ impl Table {
         ensures counts { counts_of self.new.rows ≡ slice_set (counts_of self.old.rows) p none }
         ensures links { links_of self.new.rows ≡ links_of self.old.rows }
     {
-        let mut row = free();
-        row.link = self.get(p).link;
-        self.put(p, row)
+        let link = self.get(p).link;
+        self.put(p, Row { link, ..Row::FREE })
     }
 
     /// Moves the link of the row at `p`.
-    pub fn relink(&mut self, p: usize, link: Link)
+    pub fn relink(&mut self, p: usize, link: Option<Link>)
         ensures counts { counts_of self.new.rows ≡ counts_of self.old.rows }
         ensures links { links_of self.new.rows ≡ slice_set (links_of self.old.rows) p link }
     {
         if p < 1024 {
-            relink(&mut self.rows[p], link);
+            self.rows[p].link = link;
         }
     }
 }

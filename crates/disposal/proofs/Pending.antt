@@ -1,5 +1,5 @@
 -- What is left to do of one cell, step by step.
-use Rattle.std.proofs.Common.{◌≡◌, ℕ, zero, suc, ◌+◌, ◌-◌, ◌<◌, ◌≤◌, List, [], ◌∷◌, ◌++◌, map, length, get_or, take, drop, sym, refl, ap, ◌∙◌, ap₂, ⊎_elim, append_assoc, arith}
+use Rattle.std.proofs.Common.{◌≡◌, ℕ, zero, suc, ◌+◌, ◌-◌, ◌<◌, ◌≤◌, List, [], ◌∷◌, ◌++◌, map, length, get_or, take, drop, sym, refl, ap, ◌∙◌, ap₂, ⊎_elim, append_assoc, Some, Option, arith}
 use Rattle.std.proofs.lemmas.Bool.{cases_lt}
 use Rattle.std.specs.List.{flat_map}
 use Rattle.std.proofs.lemmas.List.{drop_all, drop_more, get_or_past}
@@ -22,16 +22,16 @@ refs_here refs (y ∷ mem) (suc n) x t e = refs_here refs mem n x t e
 
 -- no reference is left
 pub pending_refs : {E : Type 0} (refs : E → List Reference) (few : (x : E) → length (refs x) ≤ 4) (mem : List E) (p : ℕ) (k : Link) → 4 ≤ k.reference
-    → pending refs mem p k ≡ flat_map (works refs) (take (k.end - k.next) (drop k.next mem)) ++ (close p ∷ [])
+    → pending refs mem p (Some k) ≡ flat_map (works refs) (take (k.end - k.next) (drop k.next mem)) ++ (close p ∷ [])
 pending_refs refs few mem p k h =
     let f = refs_few refs few mem (k.next - 1) in
     let l : length (get_or (map refs mem) (k.next - 1) []) ≤ k.reference = omega arith in
     ap (λ rs. map release rs ++ (flat_map (works refs) (take (k.end - k.next) (drop k.next mem)) ++ (close p ∷ []))) (drop_all k.reference _ l)
 
-pub pending_fresh : {E : Type 0} (refs : E → List Reference) (few : (x : E) → length (refs x) ≤ 4) (mem : List E) (q n p : ℕ) → pending refs mem q (fresh q n p) ≡ disposal refs mem q n
-pending_fresh refs few mem q n p =
+pub pending_fresh : {E : Type 0} (refs : E → List Reference) (few : (x : E) → length (refs x) ≤ 4) (mem : List E) (q n : ℕ) (back : Option ℕ) → pending refs mem q (Some (fresh q n back)) ≡ disposal refs mem q n
+pending_fresh refs few mem q n back =
     let e : q + n - q ≡ n = omega arith in
-    pending_refs refs few mem q (fresh q n p) (omega arith) ∙ ap (λ m. flat_map (works refs) (take m (drop q mem)) ++ (close q ∷ [])) e
+    pending_refs refs few mem q (fresh q n back) (omega arith) ∙ ap (λ m. flat_map (works refs) (take m (drop q mem)) ++ (close q ∷ [])) e
 
 take_none : {E : Type 0} (n : ℕ) → take {A = E} n [] ≡ []
 take_none zero = refl
@@ -46,11 +46,11 @@ none_left mem k over =
 
 -- nothing but the close is left
 pub pending_end : {E : Type 0} (refs : E → List Reference) (few : (x : E) → length (refs x) ≤ 4) (mem : List E) (p : ℕ) (k : Link) → 4 ≤ k.reference
-    → (k.next < k.end → k.next < length mem → ⊥) → pending refs mem p k ≡ close p ∷ []
+    → (k.next < k.end → k.next < length mem → ⊥) → pending refs mem p (Some k) ≡ close p ∷ []
 pending_end refs few mem p k h over = pending_refs refs few mem p k h ∙ ap (λ xs. flat_map (works refs) xs ++ (close p ∷ [])) (none_left mem k over)
 
 pub pending_element : {E : Type 0} (refs : E → List Reference) (few : (x : E) → length (refs x) ≤ 4) (mem : List E) (p : ℕ) (k : Link) (x : E) → 4 ≤ k.reference
-    → k.next < k.end → drop k.next mem ≡ x ∷ drop (k.next + 1) mem → pending refs mem p k ≡ write x ∷ pending refs mem p (element_done k)
+    → k.next < k.end → drop k.next mem ≡ x ∷ drop (k.next + 1) mem → pending refs mem p (Some k) ≡ write x ∷ pending refs mem p (Some (element_done k))
 pending_element refs few mem p k x h l e =
     let m = k.end - (k.next + 1) in
     let n : k.end - k.next ≡ suc (k.end - (k.next + 1)) = omega arith in
@@ -63,13 +63,13 @@ pending_element refs few mem p k x h l e =
 
 -- one reference more, where there is one
 pub pending_reference : {E : Type 0} (refs : E → List Reference) (mem : List E) (p : ℕ) (k : Link) → k.reference < length (get_or (map refs mem) (k.next - 1) [])
-    → pending refs mem p k ≡ release (next_reference refs mem k) ∷ pending refs mem p (reference_done k)
+    → pending refs mem p (Some k) ≡ release (next_reference refs mem k) ∷ pending refs mem p (Some (reference_done k))
 pending_reference refs mem p k l =
     ap (λ rs. map release rs ++ (flat_map (works refs) (take (k.end - k.next) (drop k.next mem)) ++ (close p ∷ []))) (drop_more (get_or (map refs mem) (k.next - 1) []) k.reference Empty l)
 
 -- and where there is none
 pub pending_none : {E : Type 0} (refs : E → List Reference) (mem : List E) (p : ℕ) (k : Link) → length (get_or (map refs mem) (k.next - 1) []) ≤ k.reference
-    → (pending refs mem p k ≡ pending refs mem p (reference_done k)) × (next_reference refs mem k ≡ Empty)
+    → (pending refs mem p (Some k) ≡ pending refs mem p (Some (reference_done k))) × (next_reference refs mem k ≡ Empty)
 pending_none refs mem p k l =
     let rs = get_or (map refs mem) (k.next - 1) [] in
     let l' : length (get_or (map refs mem) (k.next - 1) []) ≤ k.reference + 1 = omega arith in (

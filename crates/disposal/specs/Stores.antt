@@ -1,5 +1,5 @@
 -- The books and the world that a store stands for, and links at rest.
-use Rattle.std.specs.Prelude.{◌≡◌, ℕ, List}
+use Rattle.std.specs.Prelude.{◌≡◌, ℕ, List, Option}
 use Rattle.blocks.specs.Meaning.{Meaning}
 use Rattle.cells.specs.Rows.{link_at, at_rest}
 use Rattle.cells.specs.Tables.{counts_in}
@@ -16,5 +16,5 @@ abbrev pub world_of : {A E : Type 0} → (A → Meaning) → Store A → Receipt
 world_of m s t xs = record { books = books_of m s t; list = xs }
 
 -- no cell is under disposal
-abbrev pub Resting : List Link → Type 0
+abbrev pub Resting : List (Option Link) → Type 0
 Resting links = (p : ℕ) → link_at links p ≡ at_rest

@@ -1,5 +1,5 @@
 -- How the walk is read while it goes on: its links, the work that they leave, and what a turn does.
-use Rattle.std.specs.Prelude.{◌≡◌, ℕ, ◌+◌, ◌-◌, ◌*◌, ◌^◌, ◌<◌, ◌≤◌, min, Bool, true, false, cond, ◌&&◌, ◌≢◌, List, [], ◌∷◌, ◌++◌, map, take, drop, Some, None, Option, ◌==◌, nat_lt, slice_index_or, slice_set}
+use Rattle.std.specs.Prelude.{◌≡◌, ℕ, ◌+◌, ◌-◌, ◌*◌, ◌^◌, ◌<◌, ◌≤◌, min, Bool, false, cond, ◌&&◌, ◌≢◌, List, [], ◌∷◌, ◌++◌, map, take, drop, Some, None, Option, ◌==◌, slice_index_or, slice_set}
 use Rattle.std.specs.List.{flat_map}
 use Rattle.blocks.specs.Meaning.{Meaning}
 use Rattle.element.specs.declared.reference.Reference.{Reference}
@@ -7,10 +7,8 @@ use Rattle.element.specs.declared.reference.Reference.TheVariants.{Empty, Strong
 use Rattle.cells.specs.Counts.{admits_strong, with_strong}
 use Rattle.cells.specs.Rows.{at, link_at, at_rest}
 use Rattle.cells.specs.Tables.{links_in}
-use Rattle.cells.specs.declared.cell.Cell.{Cell}
 use Rattle.cells.specs.declared.row.Counts.{Counts}
 use Rattle.cells.specs.declared.row.Link.{Link}
-use Rattle.cells.specs.declared.row.Row.{Row}
 use Rattle.disposal.specs.Books.{Books, stray, with_row, begun, closed, weak_released}
 use Rattle.disposal.specs.Disposal.{World, Release, with_books, listing}
 use Rattle.disposal.specs.Stores.{world_of}
@@ -18,11 +16,6 @@ use Rattle.disposal.specs.declared.store.Receipt.{Receipt}
 use Rattle.disposal.specs.declared.store.Store.{Store}
 
 -- Counts
-
--- the cell that a row becomes where the test passes, with its link
-abbrev pub Turns : Row → Bool → Counts → Option Cell → Type 0
-Turns r test k None = test ≡ false
-Turns r test k (Some c) = (test ≡ true) × (c.counts ≡ k) × (c.link ≡ r.link)
 
 abbrev pub tally : Receipt → ℕ
 tally t = t.listed + t.cells + t.blocks + t.strays
@@ -58,7 +51,7 @@ target (Weak q) = q
 -- Links
 
 -- of the cell at q with n elements, none of them listed, that is released from back
-abbrev pub fresh : ℕ → ℕ → ℕ → Link
+abbrev pub fresh : ℕ → ℕ → Option ℕ → Link
 fresh q n back = record { back = back; next = q; end = q + n; reference = 4 }
 
 abbrev pub reference_done : Link → Link
@@ -72,21 +65,22 @@ abbrev pub next_reference : {E : Type 0} → (E → List Reference) → List E �
 next_reference refs mem k = slice_index_or (slice_index_or (map refs mem) (k.next - 1) []) k.reference Empty
 
 -- the links after the release of r, which the cell at back holds
-abbrev pub entered : Reference → Books → List Link → ℕ → List Link
+abbrev pub entered : Reference → Books → List (Option Link) → Option ℕ → List (Option Link)
 entered r b links back =
-    cond (last r b) (slice_set links (target r) (fresh (target r) (at b.rows (target r)).standing back)) links
+    cond (last r b) (slice_set links (target r) (Some (fresh (target r) (at b.rows (target r)).standing back))) links
 
 -- the cell to go on with
-abbrev pub onto : Reference → Books → ℕ → ℕ
-onto r b p = cond (last r b) (target r) p
+abbrev pub onto : Reference → Books → Option ℕ → Option ℕ
+onto r b from = cond (last r b) (Some (target r)) from
 
-abbrev pub past_reference : Reference → Books → List Link → ℕ → List Link
-past_reference r b links p = entered r b (slice_set links p (reference_done (link_at links p))) p
+-- the links after each kind of turn at the cell at p, whose link is k
+abbrev pub past_reference : Reference → Books → List (Option Link) → ℕ → Link → List (Option Link)
+past_reference r b links p k = entered r b (slice_set links p (Some (reference_done k))) (Some p)
 
-abbrev pub past_element : List Link → ℕ → List Link
-past_element links p = slice_set links p (element_done (link_at links p))
+abbrev pub past_element : List (Option Link) → ℕ → Link → List (Option Link)
+past_element links p k = slice_set links p (Some (element_done k))
 
-abbrev pub past_end : List Link → ℕ → List Link
+abbrev pub past_end : List (Option Link) → ℕ → List (Option Link)
 past_end links p = slice_set links p at_rest
 
 -- Work that is left
@@ -114,40 +108,43 @@ abbrev pub disposal : {E : Type 0} → (E → List Reference) → List E → ℕ
 disposal refs mem p n = flat_map (works refs) (take n (drop p mem)) ++ (close p ∷ [])
 
 -- what is left of it where the cell's link is k
-abbrev pub pending : {E : Type 0} → (E → List Reference) → List E → ℕ → Link → List (Work E)
-pending refs mem p k =
+abbrev pub pending : {E : Type 0} → (E → List Reference) → List E → ℕ → Option Link → List (Work E)
+pending refs mem p None = []
+pending refs mem p (Some k) =
     map release (drop k.reference (slice_index_or (map refs mem) (k.next - 1) []))
     ++ (flat_map (works refs) (take (k.end - k.next) (drop k.next mem)) ++ (close p ∷ []))
 
 -- and of all the cells of a stack
-abbrev pub todo : {E : Type 0} → (E → List Reference) → List E → List Link → List ℕ → List (Work E)
+abbrev pub todo : {E : Type 0} → (E → List Reference) → List E → List (Option Link) → List ℕ → List (Work E)
 todo refs mem links [] = []
 todo refs mem links (p ∷ st) = pending refs mem p (link_at links p) ++ todo refs mem links st
 
 -- The stack of the cells under disposal
 
-pub record Held (rows : List Counts) (links : List Link) (p : ℕ) : Type 0 where
-  pub here : p < 1024
+-- the cell at p is under disposal, with the link k
+pub record Held (rows : List Counts) (links : List (Option Link)) (p : ℕ) (k : Link) : Type 0 where
+  pub here : link_at links p ≡ Some k
   pub dead : (at rows p).strong ≡ 0
-  pub open_still : (link_at links p).reference ≤ 4
-  pub short : (link_at links p).end ≤ (link_at links p).next + 65535
+  pub open_still : k.reference ≤ 4
+  pub short : k.end ≤ k.next + 65535
 
 abbrev pub Away : ℕ → List ℕ → Type 0
 Away p [] = Unit {0}
 Away p (q ∷ st) = (q ≢ p) × Away p st
 
 -- the links from `from` back are the stack
-abbrev pub Chain : List Counts → List Link → ℕ → List ℕ → Type 0
-Chain rows links from [] = 1024 ≤ from
-Chain rows links from (p ∷ st) = (from ≡ p) × Held rows links p × Away p st × Chain rows links (link_at links p).back st
+abbrev pub Chain : List Counts → List (Option Link) → Option ℕ → List ℕ → Type 0
+Chain rows links from [] = from ≡ None
+Chain rows links from (p ∷ st) = (k : Link) × (from ≡ Some p) × Held rows links p k × Away p st × Chain rows links k.back st
 
 -- the cells that are not on the stack are at rest
-abbrev pub Idle : List Link → List ℕ → Type 0
+abbrev pub Idle : List (Option Link) → List ℕ → Type 0
 Idle links st = (p : ℕ) → Away p st → link_at links p ≡ at_rest
 
 -- one cell, or none
-abbrev pub stack_of : ℕ → List ℕ
-stack_of from = cond (nat_lt from 1024) (from ∷ []) []
+abbrev pub stack_of : Option ℕ → List ℕ
+stack_of None = []
+stack_of (Some p) = p ∷ []
 
 -- A number that falls with each turn
 
@@ -158,10 +155,11 @@ total f (x ∷ xs) = f x + total f xs
 abbrev pub strong_of : Counts → ℕ
 strong_of k = min k.strong 65535
 
-abbrev pub effort_of : Link → ℕ
-effort_of k = min (5 * (k.end - k.next) + (5 - k.reference)) 327680
+abbrev pub effort_of : Option Link → ℕ
+effort_of None = 0
+effort_of (Some k) = min (5 * (k.end - k.next) + (5 - k.reference)) 327680
 
-abbrev pub effort : List Counts → List Link → ℕ
+abbrev pub effort : List Counts → List (Option Link) → ℕ
 effort rows links = 327681 * total strong_of rows + total effort_of links
 
 -- A turn
@@ -169,11 +167,11 @@ effort rows links = 327681 * total strong_of rows + total effort_of links
 -- the world, the links, and the cell in hand
 pub record Walk (E : Type 0) : Type 0 where
   pub world : World E
-  pub links : List Link
-  pub place : ℕ
+  pub links : List (Option Link)
+  pub place : Option ℕ
 
-abbrev pub walk_of : {A E : Type 0} → (A → Meaning) → Store A → Receipt → List E → ℕ → Walk E
-walk_of m s t xs p = record { world = world_of m s t xs; links = links_in s.table; place = p }
+abbrev pub walk_of : {A E : Type 0} → (A → Meaning) → Store A → Receipt → List E → Option ℕ → Walk E
+walk_of m s t xs from = record { world = world_of m s t xs; links = links_in s.table; place = from }
 
 pub record Onward {E : Type 0} (refs : E → List Reference) (mem : List E) (s : Walk E) (st : List ℕ) (s' : Walk E) : Type 0 where
   pub stack : List ℕ

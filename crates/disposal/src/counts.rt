@@ -1,40 +1,19 @@
 //! What goes with a count of a cell: its block with the last weak count, its elements with the
 //! last strong one.
 
-ghost use Rattle.std.specs.Prelude.{◌≡◌, ◌-◌, ◌≤◌, true, if◌then◌else◌, slice_set};
+ghost use Rattle.std.specs.Prelude.{◌≡◌, if◌then◌else◌, slice_set};
 ghost use Rattle.element.specs.declared.reference.Reference.TheVariants.{Strong};
-ghost use Rattle.cells.specs.Counts.{admits_strong, admits_weak, with_strong, with_weak, ownerless};
 ghost use Rattle.cells.specs.Rows.{at, link_at};
 ghost use Rattle.cells.specs.Tables.{counts_in, links_in};
 ghost use Rattle.disposal.specs.Books.{returned, left_with, sole, begun, closed, weak_released};
 ghost use Rattle.disposal.specs.Stores.{books_of};
-ghost use Rattle.disposal.specs.Walks.{Turns, room, fresh, last, strong_released};
+ghost use Rattle.disposal.specs.Walks.{room, fresh, entered, onto, strong_released};
 
 use crate::store::{Receipt, Store};
+use crate::walk::REFERENCES;
 use blocks::Allocator;
 use cells::{Cell, Link, Row};
 use element::Sort;
-
-/// The cell of a row with one strong handle less.
-fn without_strong(row: Row) -> Option<Cell>
-    ensures { Turns row (admits_strong row.counts) (with_strong row.counts (row.counts.strong - 1)) result }
-{
-    Cell::of(row)?.dec(Sort::Strong)
-}
-
-/// The cell of a row with one weak handle less.
-fn without_weak(row: Row) -> Option<Cell>
-    ensures { Turns row (admits_weak row.counts) (with_weak row.counts (row.counts.weak - 1)) result }
-{
-    Cell::of(row)?.dec(Sort::Weak)
-}
-
-/// The cell of a row without its last owner.
-fn without_owner(row: Row) -> Option<Cell>
-    ensures { Turns row (sole row.counts) (ownerless row.counts) result }
-{
-    Cell::of(row)?.retire()
-}
 
 impl<A: Allocator> Store<A> {
     /// The block of the cell at `p` goes back.
@@ -70,7 +49,7 @@ impl<A: Allocator> Store<A> {
         ensures books { books_of A.Allocator.meaning self.new receipt.new ≡ weak_released (books_of A.Allocator.meaning self.old receipt.old) p }
         ensures links { links_in self.new.table ≡ links_in self.old.table }
     {
-        match without_weak(self.table.get(p)) {
+        match Cell::of(self.table.get(p)).and_then(|cell| cell.dec(Sort::Weak)) {
             Some(cell) => self.leave(p, cell, receipt),
             None => receipt.strays += 1,
         }
@@ -82,55 +61,64 @@ impl<A: Allocator> Store<A> {
         ensures books { books_of A.Allocator.meaning self.new receipt.new ≡ closed (books_of A.Allocator.meaning self.old receipt.old) p }
         ensures links { links_in self.new.table ≡ links_in self.old.table }
     {
-        if let Some(cell) = without_owner(self.table.get(p)) {
+        if let Some(cell) = Cell::of(self.table.get(p)).and_then(|cell| cell.retire()) {
             self.leave(p, cell, receipt);
         }
     }
 
     /// Begins the disposal of the cell at `p`, released from `back`, if only its last owner keeps
-    /// it. Answers whether it did.
-    pub(crate) fn begin(&mut self, p: usize, back: usize, receipt: &mut Receipt) -> bool
-        requires room { room receipt.old }
-        requires back { back ≤ 1024 }
-        ensures begins { result ≡ sole (at (counts_in self.old.table) p) }
-        ensures books { books_of A.Allocator.meaning self.new receipt.new ≡ (if result then begun (books_of A.Allocator.meaning self.old receipt.old) p else books_of A.Allocator.meaning self.old receipt.old) }
-        ensures links { links_in self.new.table ≡ (if result then slice_set (links_in self.old.table) p (fresh p (at (counts_in self.old.table) p).standing back) else links_in self.old.table) }
+    /// it. Answers the cell to go on with.
+    pub(crate) fn begin(
+        &mut self,
+        p: usize,
+        back: Option<u16>,
+        receipt: &mut Receipt,
+    ) -> Option<u16>
+        requires { room receipt.old }
+        ensures books { books_of A.Allocator.meaning self.new receipt.new ≡ (if sole (at (counts_in self.old.table) p) then begun (books_of A.Allocator.meaning self.old receipt.old) p else books_of A.Allocator.meaning self.old receipt.old) }
+        ensures links { links_in self.new.table ≡ (if sole (at (counts_in self.old.table) p) then slice_set (links_in self.old.table) p (Some (fresh p (at (counts_in self.old.table) p).standing back)) else links_in self.old.table) }
+        ensures place { result ≡ (if sole (at (counts_in self.old.table) p) then Some p else back) }
     {
         let Some(cell) = Cell::of(self.table.get(p)) else {
-            return false;
+            return back;
         };
-        let next = p as u32;
+        let place = p as u16;
+        let next = u32::from(place);
         let link = Link {
-            back: back as u16,
+            back,
             next,
             end: next + u32::from(cell.counts.standing),
-            reference: 4,
+            reference: REFERENCES,
         };
         let Some(dying) = cell.begin_disposal(link) else {
-            return false;
+            return back;
         };
         self.table.put(p, Row::from(dying));
         receipt.cells += 1;
-        true
+        Some(place)
     }
 
     /// A strong handle at `p` goes, released from `back`; with the last one the disposal of the
-    /// cell begins. Answers whether it was the last.
-    pub(crate) fn lower_strong(&mut self, p: usize, back: usize, receipt: &mut Receipt) -> bool
-        requires room { room receipt.old }
-        requires back { back ≤ 1024 }
-        ensures begins { result ≡ last (Strong p) (books_of A.Allocator.meaning self.old receipt.old) }
+    /// cell begins. Answers the cell to go on with.
+    pub(crate) fn lower_strong(
+        &mut self,
+        p: usize,
+        back: Option<u16>,
+        receipt: &mut Receipt,
+    ) -> Option<u16>
+        requires { room receipt.old }
         ensures books { books_of A.Allocator.meaning self.new receipt.new ≡ strong_released (books_of A.Allocator.meaning self.old receipt.old) p }
-        ensures links { links_in self.new.table ≡ (if result then slice_set (links_in self.old.table) p (fresh p (at (counts_in self.old.table) p).standing back) else links_in self.old.table) }
+        ensures links { links_in self.new.table ≡ entered (Strong p) (books_of A.Allocator.meaning self.old receipt.old) (links_in self.old.table) back }
+        ensures place { result ≡ onto (Strong p) (books_of A.Allocator.meaning self.old receipt.old) back }
     {
-        let Some(cell) = without_strong(self.table.get(p)) else {
+        let Some(cell) = Cell::of(self.table.get(p)).and_then(|cell| cell.dec(Sort::Strong)) else {
             receipt.strays += 1;
-            return false;
+            return back;
         };
         if cell.counts.strong == 0 {
             return self.begin(p, back, receipt);
         }
-        self.table.put(p, Row::from(cell));
-        false
+use cells::{Cell, Link, Row};
+use element::Sort;
     }
 }

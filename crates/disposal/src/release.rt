@@ -5,38 +5,21 @@ ghost use Rattle.cells.specs.Tables.{links_in};
 ghost use Rattle.disposal.specs.Books.{none_yet, closed, weak_released};
 ghost use Rattle.disposal.specs.Disposal.{Release, Abandons};
 ghost use Rattle.disposal.specs.Stores.{books_of, world_of, Resting};
-ghost use Rattle.disposal.specs.Walks.{tally};
 
 use crate::store::{Receipt, Store};
-use crate::walk::NOWHERE;
 use blocks::Allocator;
 use element::{Element, Reference};
 
 impl<A: Allocator> Store<A> {
-    /// Releases `r`, and walks until no cell is under disposal.
-    fn settle<E: Element>(
-        &mut self,
-        memory: &[E],
-        list: &mut [E],
-        r: Reference,
-        receipt: &mut Receipt,
-    )
-        requires { tally receipt.old ≡ 0 }
-        ensures release { Release E.Element.refs memory.now r (world_of A.Allocator.meaning self.old receipt.old list.old) (world_of A.Allocator.meaning self.new receipt.new list.new) }
-        ensures links { Resting (links_in self.old.table) → Resting (links_in self.new.table) }
-    {
-        let place = self.lower(r, NOWHERE, receipt);
-        self.walk(memory, list, place, receipt);
-    }
-
     /// Releases `r`. The elements of the cells that die by it are written to the list, in the order
     /// in which they go; those that it has no place for are counted only.
     pub fn release<E: Element>(&mut self, memory: &[E], list: &mut [E], r: Reference) -> Receipt
         ensures release { Release E.Element.refs memory.now r (world_of A.Allocator.meaning self.old none_yet list.old) (world_of A.Allocator.meaning self.new result list.new) }
         ensures links { Resting (links_in self.old.table) → Resting (links_in self.new.table) }
     {
-        let mut receipt = Receipt::NOTHING;
-        self.settle(memory, list, r, &mut receipt);
+        let mut receipt = Receipt::default();
+        let place = self.lower(r, None, &mut receipt);
+        self.walk(memory, list, place, &mut receipt);
         receipt
     }
 
@@ -45,12 +28,12 @@ impl<A: Allocator> Store<A> {
         ensures dispose { Abandons E.Element.refs memory.now p (world_of A.Allocator.meaning self.old none_yet list.old) (world_of A.Allocator.meaning self.new result list.new) }
         ensures links { Resting (links_in self.old.table) → Resting (links_in self.new.table) }
     {
-        let mut receipt = Receipt::NOTHING;
-        if !self.begin(p, NOWHERE, &mut receipt) {
+        let mut receipt = Receipt::default();
+        let Some(place) = self.begin(p, None, &mut receipt) else {
             receipt.strays += 1;
             return receipt;
-        }
-        self.walk(memory, list, p, &mut receipt);
+        };
+        self.walk(memory, list, Some(place), &mut receipt);
         receipt
     }
 
@@ -59,7 +42,7 @@ impl<A: Allocator> Store<A> {
         ensures books { books_of A.Allocator.meaning self.new result ≡ weak_released (books_of A.Allocator.meaning self.old none_yet) p }
         ensures links { links_in self.new.table ≡ links_in self.old.table }
     {
-        let mut receipt = Receipt::NOTHING;
+        let mut receipt = Receipt::default();
         self.lower_weak(p, &mut receipt);
         receipt
     }
@@ -69,7 +52,7 @@ impl<A: Allocator> Store<A> {
         ensures books { books_of A.Allocator.meaning self.new result ≡ closed (books_of A.Allocator.meaning self.old none_yet) p }
         ensures links { links_in self.new.table ≡ links_in self.old.table }
     {
-        let mut receipt = Receipt::NOTHING;
+        let mut receipt = Receipt::default();
         self.close(p, &mut receipt);
         receipt
     }

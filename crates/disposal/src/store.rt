@@ -10,7 +10,7 @@ pub struct Store<A: Allocator> {
 }
 
 /// What a release or an abandoning did.
-#[derive(Clone, Copy)]
+#[derive(Clone, Copy, Default)]
 pub struct Receipt {
     /// Elements written to the list.
     pub listed: usize,
@@ -20,14 +20,4 @@ pub struct Receipt {
     pub blocks: usize,
     /// References that no cell admitted.
     pub strays: usize,
-}
-
-impl Receipt {
-    /// Nothing done yet.
-    pub const NOTHING: Receipt = Receipt {
-        listed: 0,
-        cells: 0,
-        blocks: 0,
-        strays: 0,
-    };
 }

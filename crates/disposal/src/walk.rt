@@ -2,7 +2,7 @@
 //! so that the walk needs no room of its own; a turn of it lists one element, releases one
 //! reference or closes one cell.
 
-ghost use Rattle.std.specs.Prelude.{◌≡◌, ◌+◌, ◌<◌, ◌≤◌, ◌∷◌, length, drop, slice_set};
+ghost use Rattle.std.specs.Prelude.{◌≡◌, ◌<◌, ◌≤◌, slice_set};
 ghost use Rattle.cells.specs.Rows.{link_at};
 ghost use Rattle.cells.specs.Tables.{counts_in, links_in};
 ghost use Rattle.disposal.specs.Books.{closed, one_listed};
@@ -15,107 +15,92 @@ use blocks::Allocator;
 use cells::Link;
 use element::{Element, Reference};
 
-/// Past every place: where the walk ends.
-pub(crate) const NOWHERE: usize = 1024;
-
 /// How many references an element can hold.
-const REFERENCES: u8 = 4;
+pub(crate) const REFERENCES: u8 = 4;
 
 impl<A: Allocator> Store<A> {
-    /// Releases `r`, which the cell at `p` holds, and answers the cell to go on with.
-    pub(crate) fn lower(&mut self, r: Reference, p: usize, receipt: &mut Receipt) -> usize
-        requires room { room receipt.old }
-        requires place { p ≤ 1024 }
+    /// Releases `r`, which the cell at `from` holds, and answers the cell to go on with.
+    pub(crate) fn lower(
+        &mut self,
+        r: Reference,
+        from: Option<u16>,
+        receipt: &mut Receipt,
+    ) -> Option<u16>
+        requires { room receipt.old }
         ensures books { books_of A.Allocator.meaning self.new receipt.new ≡ released r (books_of A.Allocator.meaning self.old receipt.old) }
-        ensures links { links_in self.new.table ≡ entered r (books_of A.Allocator.meaning self.old receipt.old) (links_in self.old.table) p }
-        ensures place { result ≡ onto r (books_of A.Allocator.meaning self.old receipt.old) p }
+        ensures links { links_in self.new.table ≡ entered r (books_of A.Allocator.meaning self.old receipt.old) (links_in self.old.table) from }
+        ensures place { result ≡ onto r (books_of A.Allocator.meaning self.old receipt.old) from }
     {
         match r {
-            Reference::Empty => p,
-            Reference::Strong(q) => {
-                let q = q as usize;
-                if self.lower_strong(q, p, receipt) {
-                    q
-                } else {
-                    p
-                }
-            }
+            Reference::Empty => from,
+            Reference::Strong(q) => self.lower_strong(q as usize, from, receipt),
             Reference::Weak(q) => {
                 self.lower_weak(q as usize, receipt);
-                p
+                from
             }
         }
     }
 
     /// Releases the next reference of the element that was listed last.
-    fn turn_reference<E: Element>(&mut self, memory: &[E], p: usize, receipt: &mut Receipt) -> usize
+    fn turn_reference<E: Element>(
+        &mut self,
+        memory: &[E],
+        p: u16,
+        link: Link,
+        receipt: &mut Receipt,
+    ) -> Option<u16>
         requires room { room receipt.old }
-        requires place { p ≤ 1024 }
-        requires more { (link_at (links_in self.old.table) p).reference < 4 }
-        ensures books { books_of A.Allocator.meaning self.new receipt.new ≡ released (next_reference E.Element.refs memory.now (link_at (links_in self.old.table) p)) (books_of A.Allocator.meaning self.old receipt.old) }
-        ensures links { links_in self.new.table ≡ past_reference (next_reference E.Element.refs memory.now (link_at (links_in self.old.table) p)) (books_of A.Allocator.meaning self.old receipt.old) (links_in self.old.table) p }
-        ensures place { result ≡ onto (next_reference E.Element.refs memory.now (link_at (links_in self.old.table) p)) (books_of A.Allocator.meaning self.old receipt.old) p }
+        requires more { link.reference < 4 }
+        ensures books { books_of A.Allocator.meaning self.new receipt.new ≡ released (next_reference E.Element.refs memory.now link) (books_of A.Allocator.meaning self.old receipt.old) }
+        ensures links { links_in self.new.table ≡ past_reference (next_reference E.Element.refs memory.now link) (books_of A.Allocator.meaning self.old receipt.old) (links_in self.old.table) p link }
+        ensures place { result ≡ onto (next_reference E.Element.refs memory.now link) (books_of A.Allocator.meaning self.old receipt.old) (Some p) }
     {
-        let link = self.table.get(p).link;
         let listed = (link.next as usize).saturating_sub(1);
         let r = reference_at(memory, listed, link.reference as usize);
         let after = Link {
-            back: link.back,
-            next: link.next,
-            end: link.end,
             reference: link.reference + 1,
+            ..link
         };
-        self.table.relink(p, after);
-        self.lower(r, p, receipt)
+        self.table.relink(usize::from(p), Some(after));
+        self.lower(r, Some(p), receipt)
     }
 
-    /// Lists the next element, and answers it.
+    /// Lists the next element, which is `x`.
     fn turn_element<E: Element>(
         &mut self,
-        memory: &[E],
         list: &mut [E],
-        p: usize,
+        p: u16,
+        link: Link,
+        x: E,
         receipt: &mut Receipt,
-    ) -> E
+    )
         requires room { room receipt.old }
-        requires within { (link_at (links_in self.old.table) p).next < length memory.now }
-        requires more { (link_at (links_in self.old.table) p).next < (link_at (links_in self.old.table) p).end }
-        ensures element { drop (link_at (links_in self.old.table) p).next memory.now ≡ result ∷ drop ((link_at (links_in self.old.table) p).next + 1) memory.now }
-        ensures list { list.new ≡ slice_set list.old receipt.old.listed result }
+        requires more { link.next < link.end }
+        ensures list { list.new ≡ slice_set list.old receipt.old.listed x }
         ensures books { books_of A.Allocator.meaning self.new receipt.new ≡ books_of A.Allocator.meaning self.old (one_listed receipt.old) }
-        ensures links { links_in self.new.table ≡ past_element (links_in self.old.table) p }
+        ensures links { links_in self.new.table ≡ past_element (links_in self.old.table) p link }
     {
-        let link = self.table.get(p).link;
-        let x = memory[link.next as usize];
         write_at(list, receipt.listed, x);
         receipt.listed += 1;
         let after = Link {
-            back: link.back,
             next: link.next + 1,
-            end: link.end,
             reference: 0,
+            ..link
         };
-        self.table.relink(p, after);
-        x
+        self.table.relink(usize::from(p), Some(after));
     }
 
     /// Closes the cell, and answers the one that it was released from.
-    fn turn_close(&mut self, p: usize, receipt: &mut Receipt) -> usize
+    fn turn_close(&mut self, p: u16, link: Link, receipt: &mut Receipt) -> Option<u16>
         requires { room receipt.old }
         ensures books { books_of A.Allocator.meaning self.new receipt.new ≡ closed (books_of A.Allocator.meaning self.old receipt.old) p }
         ensures links { links_in self.new.table ≡ past_end (links_in self.old.table) p }
-        ensures place { result ≡ (link_at (links_in self.old.table) p).back }
+        ensures place { result ≡ link.back }
     {
-        let back = self.table.get(p).link.back;
-        let rest = Link {
-            back: 1024,
-            next: 0,
-            end: 0,
-            reference: 5,
-        };
-        self.table.relink(p, rest);
+        let p = usize::from(p);
+        self.table.relink(p, None);
         self.close(p, receipt);
-        usize::from(back)
+        link.back
     }
 
     /// One turn of the walk, at the cell at `p`. Answers the cell to go on with.
@@ -123,22 +108,23 @@ impl<A: Allocator> Store<A> {
         &mut self,
         memory: &[E],
         list: &mut [E],
-        p: usize,
+        p: u16,
+        link: Link,
         receipt: &mut Receipt,
-    ) -> usize
+    ) -> Option<u16>
         requires room { room receipt.old }
-        requires place { p < 1024 }
-        ensures { Turned E.Element.refs memory.now (walk_of A.Allocator.meaning self.old receipt.old list.old p) (walk_of A.Allocator.meaning self.new receipt.new list.new result) }
+        requires link { link_at (links_in self.old.table) p ≡ Some link }
+        ensures { Turned E.Element.refs memory.now (walk_of A.Allocator.meaning self.old receipt.old list.old (Some p)) (walk_of A.Allocator.meaning self.new receipt.new list.new result) }
     {
-        let link = self.table.get(p).link;
-        let next = link.next as usize;
         if link.reference < REFERENCES {
-            self.turn_reference(memory, p, receipt)
-        } else if link.next < link.end && next < memory.len() {
-            let _listed = self.turn_element(memory, list, p, receipt);
-            p
+            self.turn_reference(memory, p, link, receipt)
+        } else if link.next < link.end
+            && let Some(x) = memory.get(link.next as usize)
+        {
+            self.turn_element(list, p, link, *x, receipt);
+            Some(p)
         } else {
-            self.turn_close(p, receipt)
+            self.turn_close(p, link, receipt)
         }
     }
 
@@ -147,7 +133,7 @@ impl<A: Allocator> Store<A> {
         &mut self,
         memory: &[E],
         list: &mut [E],
-        from: usize,
+        from: Option<u16>,
         receipt: &mut Receipt,
     )
         requires stack { Chain (counts_in self.old.table) (links_in self.old.table) from (stack_of from) }
@@ -156,8 +142,11 @@ impl<A: Allocator> Store<A> {
         ensures rests { Idle (links_in self.old.table) (stack_of from) → Resting (links_in self.new.table) }
     {
         let mut place = from;
-        while place < NOWHERE {
-            place = self.turn(memory, list, place, receipt);
+        while let Some(p) = place {
+            let Some(link) = self.table.get(usize::from(p)).link else {
+                unreachable()
+            };
+            place = self.turn(memory, list, p, link, receipt);
         }
     }
 }

@@ -42,7 +42,7 @@ impl<A: Allocator> Census<A> {
     {
         self.check_memory(memory)?;
         let Some(ticket) = ticket else {
-            return Ok(Receipt::NOTHING);
+            return Ok(Receipt::default());
         };
         self.check_handle(Sort::Weak, ticket)?;
         Ok(self.store.release_weak(ticket.place as usize))

@@ -1,19 +1,15 @@
-use Rattle.std.proofs.Common.{◌<◌, ◌≤◌, length, ap, ◌∙◌, arith}
+use Rattle.std.proofs.Common.{◌≡◌, get_or, refl, ap, ◌∙◌, rules}
+use Rattle.cells.specs.Rows.{free_row}
 use Rattle.cells.specs.declared.row.Row.{Row}
-use Rattle.cells.proofs.Rows.{counts_here, links_here, counts_past, links_past}
+use Rattle.cells.proofs.Rows.{counts_get, links_get}
 use Rattle.cells.proofs.table.Table.get.Goals as goal
 
-pub returns-then-p-lt1024 : goal.returns-then-p-lt1024
-returns-then-p-lt1024 c =
-    let full = c.args.self.now.full in
-    let l : c.args.p < length c.args.self.now.rows = omega arith in
-    record { counts = counts_here c.args.self.now.rows c.args.p _ l; link = links_here c.args.self.now.rows c.args.p _ l }
-
-pub returns-else-p-lt1024 : goal.returns-else-p-lt1024
-returns-else-p-lt1024 c =
-    let full = c.args.self.now.full in
-    let l : length c.args.self.now.rows ≤ c.args.p = omega arith in
+pub returns : goal.returns
+returns c =
+    let rows = c.args.self.now.rows in
+    let p = c.args.p in
+    let e : c.unwrap_or.result ≡ get_or rows p free_row = search rules in
     record {
-      counts = ap (λ (r : Row). r.counts) c.free.ensures ∙ counts_past c.args.self.now.rows c.args.p l;
-      link = ap (λ (r : Row). r.link) c.free.ensures ∙ links_past c.args.self.now.rows c.args.p l;
+      counts = ap (λ (r : Row). r.counts) e ∙ counts_get rows p free_row refl;
+      link = ap (λ (r : Row). r.link) e ∙ links_get rows p free_row refl;
     }

@@ -7,19 +7,19 @@ use Rattle.cells.proofs.Rows.{counts_here, counts_set, links_set, counts_length,
 use Rattle.cells.proofs.table.Table.put.Goals as goal
 
 -- what stood in the row that was lent
-old_is : (c : goal.After-from-then-p-lt1024) → c.rewrite-old.result ≡ (at (counts_of c.args.self.now.rows) c.args.p).standing
+old_is : (c : goal.After-from-then-p-lt1024) → c.from.result ≡ (at (counts_of c.args.self.now.rows) c.args.p).standing
 old_is c =
     let full = c.args.self.now.full in
     let l : c.args.p < length c.args.self.now.rows = omega arith in
-    c.rewrite-old.ensures.standing ∙ ap (λ (k : Counts). k.standing) (counts_here c.args.self.now.rows c.args.p _ l)
+    c.from.ensures ∙ ap (λ (r : Row). r.counts.standing) c.replace-old.ensures.value ∙ ap (λ (k : Counts). k.standing) (counts_here c.args.self.now.rows c.args.p _ l)
 
 pub overflow_sub-self : goal.overflow_sub-self
 overflow_sub-self c =
     let rows = c.args.self.now.rows in
     let full = c.args.self.now.full in
     let l : c.args.p < length rows = omega arith in
-    let e : c.rewrite-old.result ≡ (at (counts_of rows) c.args.p).standing =
-    c.rewrite-old.ensures.standing ∙ ap (λ (k : Counts). k.standing) (counts_here rows c.args.p _ l) in
+    let e : c.from.result ≡ (at (counts_of rows) c.args.p).standing =
+    c.from.ensures ∙ ap (λ (r : Row). r.counts.standing) c.replace-old.ensures.value ∙ ap (λ (k : Counts). k.standing) (counts_here rows c.args.p _ l) in
     omega (arith, e, standing_at (counts_of rows) c.args.p, c.args.self.now.sum)
 
 pub overflow_add-self : goal.overflow_add-self
@@ -38,7 +38,7 @@ invariant_of-self c =
     let full = c.args.self.now.full in
     let m : p < length (counts_of rows) = omega (arith, counts_length rows) in
     let row = c.args.row in
-    let e = counts_set rows p c.rewrite-old.new.row ∙ ap (λ (r : Row). set (counts_of rows) p r.counts) c.rewrite-old.ensures.after in
+    let e = counts_set rows p c.replace-old.new.dest ∙ ap (λ (r : Row). set (counts_of rows) p r.counts) c.replace-old.ensures.after in
     let sum = standing_set (counts_of rows) p row.counts m in
     record {
       full = length-set rows p _ ∙ full;
@@ -51,8 +51,8 @@ returns-then-p-lt1024 c =
     let rows = c.args.self.now.rows in
     let p = c.args.p in
     record {
-      counts = counts_set rows p c.rewrite-old.new.row ∙ ap (λ (r : Row). set (counts_of rows) p r.counts) c.rewrite-old.ensures.after;
-      links = links_set rows p c.rewrite-old.new.row ∙ ap (λ (r : Row). set (links_of rows) p r.link) c.rewrite-old.ensures.after;
+      counts = counts_set rows p c.replace-old.new.dest ∙ ap (λ (r : Row). set (counts_of rows) p r.counts) c.replace-old.ensures.after;
+      links = links_set rows p c.replace-old.new.dest ∙ ap (λ (r : Row). set (links_of rows) p r.link) c.replace-old.ensures.after;
     }
 
 pub returns-else-p-lt1024 : goal.returns-else-p-lt1024

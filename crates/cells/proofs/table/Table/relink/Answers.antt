@@ -8,7 +8,7 @@ pub invariant_of-self : goal.invariant_of-self
 invariant_of-self c =
     let full = c.args.self.now.full in
     let l : c.args.p < length c.args.self.now.rows = omega arith in
-    let same = counts_same c.args.self.now.rows c.args.p _ c.relink.new.row l c.relink.ensures.counts in
+    let same = counts_same c.args.self.now.rows c.args.p _ _ l refl in
     record { full = length-set c.args.self.now.rows c.args.p _ ∙ full; few = ap small same ∙ c.args.self.now.few; sum = c.args.self.now.sum ∙ sym (ap standing_in same) }
 
 pub returns-then-p-lt1024 : goal.returns-then-p-lt1024
@@ -16,8 +16,8 @@ returns-then-p-lt1024 c =
     let full = c.args.self.now.full in
     let l : c.args.p < length c.args.self.now.rows = omega arith in
     record {
-      counts = counts_same c.args.self.now.rows c.args.p _ c.relink.new.row l c.relink.ensures.counts;
-      links = links_set c.args.self.now.rows c.args.p c.relink.new.row ∙ ap (set (links_of c.args.self.now.rows) c.args.p) c.relink.ensures.link;
+      counts = counts_same c.args.self.now.rows c.args.p _ _ l refl;
+      links = links_set c.args.self.now.rows c.args.p _;
     }
 
 pub returns-else-p-lt1024 : goal.returns-else-p-lt1024

@@ -3,8 +3,8 @@ use Rattle.cells.specs.declared.row.Counts.{Counts}
 use Rattle.disposal.proofs.Places.{cell_here, standing_short}
 use Rattle.disposal.proofs.store.Store.begin.Goals as goal
 
-pub overflow_cast-next : goal.overflow_cast-next
-overflow_cast-next g c =
+pub overflow_cast-place : goal.overflow_cast-place
+overflow_cast-place g c =
     let here = cell_here c.args.self.now.table c.args.p c.get.result.counts c.get.ensures.counts c.in-Some.ensures.0 in
     omega arith
 

@@ -6,7 +6,7 @@ use Rattle.disposal.proofs.store.Store.walk.Given as goal
 abbrev pub invariant-loop-place : goal.invariant-loop-place
 invariant-loop-place g l =
     Within g.E.Element.refs l.memory
-    (walk_of g.A.Allocator.meaning l.initial.self l.initial.receipt l.initial.list l.initial.place) (stack_of l.from)
+    (walk_of g.A.Allocator.meaning l.initial.self l.initial.receipt l.initial.list l.initial.place) (stack_of l.initial.place)
     (walk_of g.A.Allocator.meaning l.self l.receipt l.list l.place)
 
 abbrev pub decreases-loop-place : goal.decreases-loop-place

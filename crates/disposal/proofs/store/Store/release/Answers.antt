@@ -1,0 +1,20 @@
+use Rattle.std.proofs.Common.{arith}
+use Rattle.disposal.specs.Books.{none_yet}
+use Rattle.disposal.proofs.Starts.{started, nothing}
+use Rattle.disposal.proofs.store.Store.release.Goals as goal
+
+pub walk-requires : goal.walk-requires
+walk-requires g c =
+    let f = c.lower-place.ensures in
+    let e = nothing c.default-receipt.result c.default-receipt.ensures in
+    let s = started g.A.Allocator.meaning g.E.Element.refs g.met.E.Element.few c.args.memory.now c.args.list.now c.args.r
+    c.args.self.now c.lower-place.new.self none_yet c.lower-place.new.receipt c.lower-place.result (rw e at f.books) (rw e at f.links) (rw e at f.place) in
+    record { stack = s.chain; few = omega (arith, s.counted) }
+
+pub returns : goal.returns
+returns g c =
+    let f = c.lower-place.ensures in
+    let e = nothing c.default-receipt.result c.default-receipt.ensures in
+    let s = started g.A.Allocator.meaning g.E.Element.refs g.met.E.Element.few c.args.memory.now c.args.list.now c.args.r
+    c.args.self.now c.lower-place.new.self none_yet c.lower-place.new.receipt c.lower-place.result (rw e at f.books) (rw e at f.links) (rw e at f.place) in
+    record { release = s.ends _ c.walk.ensures.does; links = λ rest. c.walk.ensures.rests (s.idle rest) }

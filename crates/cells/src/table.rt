@@ -33,24 +33,7 @@ fn free() -> Row
     Row { counts, link: None }
 }
 
-/// Writes a lent row whole, and answers how many elements stood in it.
-fn rewrite(row: &mut Row, new: Row) -> u16
-    ensures standing { result ≡ row.old.counts.standing }
-    ensures after { row.new ≡ new }
-{
-    let standing = row.counts.standing;
-    *row = new;
-    standing
-}
-
-/// Moves the link of a lent row.
-fn relink(row: &mut Row, link: Option<Link>)
-    ensures counts { row.new.counts ≡ row.old.counts }
-    ensures link { row.new.link ≡ link }
-{
-    row.link = link;
-}
-
+#[tactic(auto, unfolding(crate::specs::Rows::counts_of, crate::specs::Rows::links_of))]
 impl Table {
     /// A table without cells.
     pub fn new() -> Table
@@ -84,7 +67,8 @@ impl Table {
         ensures links { links_of self.new.rows ≡ slice_set (links_of self.old.rows) p row.link }
     {
         if p < 1024 {
-            let old = rewrite(&mut self.rows[p], row);
+            let old = self.rows[p].counts.standing;
+            self.rows[p] = row;
             self.standing = self.standing - usize::from(old) + usize::from(row.counts.standing);
         }
     }
@@ -105,7 +89,7 @@ impl Table {
         ensures links { links_of self.new.rows ≡ slice_set (links_of self.old.rows) p link }
     {
         if p < 1024 {
-            relink(&mut self.rows[p], link);
+            self.rows[p].link = link;
         }
     }
 }

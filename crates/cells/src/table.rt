@@ -51,7 +51,7 @@ impl Table {
         ensures counts { result.counts ≡ at (counts_of self.now.rows) p }
         ensures link { result.link ≡ link_at (links_of self.now.rows) p }
     {
-        if p < 1024 { self.rows[p] } else { free() }
+        self.rows.get(p).copied().unwrap_or(free())
     }
 
     /// How many elements stand in all cells.
@@ -78,9 +78,8 @@ impl Table {
         ensures counts { counts_of self.new.rows ≡ slice_set (counts_of self.old.rows) p none }
         ensures links { links_of self.new.rows ≡ links_of self.old.rows }
     {
-        let mut row = free();
-        row.link = self.get(p).link;
-        self.put(p, row)
+        let link = self.get(p).link;
+        self.put(p, Row { link, ..free() })
     }
 
     /// Moves the link of the row at `p`.

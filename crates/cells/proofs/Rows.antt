@@ -1,12 +1,12 @@
 -- The counts and links of rows, place by place, and the sum of the elements standing.
-use Rattle.std.proofs.Common.{◌≡◌, ℕ, zero, suc, ◌+◌, ◌*◌, ◌<◌, ◌≤◌, true, leb, List, [], ◌∷◌, length, get_or, map, set, replicate, Option, sym, refl, ap, ◌∙◌, arith}
+use Rattle.std.proofs.Common.{◌≡◌, ℕ, ◌+◌, ◌*◌, ◌<◌, ◌≤◌, true, leb, List, length, get_or, set, sym, ap, ◌∙◌, arith}
+use Rattle.std.proofs.lemmas.Bool.{le-leb, leb-true}
 use Rattle.std.proofs.lemmas.List.{length-map, get_or-map, map-set, set-get_or}
-use Rattle.std.proofs.Math.ListN as whole
-use Rattle.std.proofs.lemmas.Bool.{and_parts, and_from, leb-true, le-leb}
+use Rattle.std.proofs.lemmas.List.Elements.{All-set}
+use Rattle.std.proofs.lemmas.List.Sums.{sum_by-le, sum_by-set, get_or-le-sum_by, AllPass-from_list_all, list_all-from_AllPass}
 use Rattle.cells.specs.Counts.{none}
-use Rattle.cells.specs.Rows.{at, link_at, at_rest, counts_of, links_of, standing_in, small}
+use Rattle.cells.specs.Rows.{at, counts_of, links_of, standing_in, small}
 use Rattle.cells.specs.declared.row.Counts.{Counts}
-use Rattle.cells.specs.declared.row.Link.{Link}
 use Rattle.cells.specs.declared.row.Row.{Row}
 
 -- Places
@@ -19,21 +19,9 @@ pub links_length : (rs : List Row) → length (links_of rs) ≡ length rs
 unfolding links_of
 links_length rs = length-map rs _
 
-pub counts_here : (rs : List Row) (p : ℕ) (d : Row) → p < length rs → (get_or rs p d).counts ≡ at (counts_of rs) p
+counts_here : (rs : List Row) (p : ℕ) (d : Row) → p < length rs → (get_or rs p d).counts ≡ at (counts_of rs) p
 unfolding counts_of
 counts_here rs p d h = sym (get_or-map (λ (r : Row). r.counts) rs p d none h)
-
-pub links_here : (rs : List Row) (p : ℕ) (d : Row) → p < length rs → (get_or rs p d).link ≡ link_at (links_of rs) p
-unfolding links_of
-links_here rs p d h = sym (get_or-map (λ (r : Row). r.link) rs p d at_rest h)
-
-pub counts_get : (rs : List Row) (p : ℕ) (d : Row) → d.counts ≡ none → (get_or rs p d).counts ≡ at (counts_of rs) p
-unfolding counts_of
-counts_get rs p d e = sym (whole.get_or-map (λ (r : Row). r.counts) rs p d) ∙ ap (get_or (map (λ (r : Row). r.counts) rs) p) e
-
-pub links_get : (rs : List Row) (p : ℕ) (d : Row) → d.link ≡ at_rest → (get_or rs p d).link ≡ link_at (links_of rs) p
-unfolding links_of
-links_get rs p d e = sym (whole.get_or-map (λ (r : Row). r.link) rs p d) ∙ ap (get_or (map (λ (r : Row). r.link) rs) p) e
 
 pub counts_set : (rs : List Row) (p : ℕ) (r : Row) → counts_of (set rs p r) ≡ set (counts_of rs) p r.counts
 unfolding counts_of
@@ -48,49 +36,28 @@ counts_same rs p d r h e = counts_set rs p r ∙ ap (set (counts_of rs) p) (e �
 
 -- The elements standing
 
-pub standing_bound : (ks : List Counts) → small ks ≡ true → standing_in ks ≤ length ks * 65535
+pub standing_here : (rs : List Row) (p : ℕ) (d : Row) → p < length rs → (get_or rs p d).counts.standing ≤ standing_in (counts_of rs)
+unfolding standing_in
+standing_here rs p d h =
+    let l : p < length (counts_of rs) = omega (arith, counts_length rs) in
+    omega (arith, get_or-le-sum_by (λ (k : Counts). k.standing) (counts_of rs) p none l, ap (λ (k : Counts). k.standing) (counts_here rs p d h))
+
+pub standing_set : (rs : List Row) (p : ℕ) (d r : Row) → p < length rs
+    → standing_in (counts_of (set rs p r)) + (get_or rs p d).counts.standing ≡ standing_in (counts_of rs) + r.counts.standing
+unfolding standing_in
+standing_set rs p d r h =
+    let l : p < length (counts_of rs) = omega (arith, counts_length rs) in
+    omega (arith, sum_by-set (λ (k : Counts). k.standing) (counts_of rs) p r.counts none l, ap standing_in (counts_set rs p r), ap (λ (k : Counts). k.standing) (counts_here rs p d h))
+
+pub standing_bound : (rs : List Row) → small (counts_of rs) ≡ true → standing_in (counts_of rs) ≤ length rs * 65535
 unfolding small standing_in
-standing_bound [] h = omega arith
-standing_bound (k ∷ ks) h =
-    let s = and_parts (leb k.standing 65535) (small ks) h in
-    omega (arith, leb-true k.standing 65535 s.0, standing_bound ks s.1)
+standing_bound rs h =
+    let all = AllPass-from_list_all (λ (k : Counts). leb k.standing 65535) (counts_of rs) h in
+    omega (arith, counts_length rs, sum_by-le (λ (k : Counts). k.standing) 65535 (counts_of rs) (λ i d l. leb-true _ _ (all i d l)))
 
-pub standing_set : (ks : List Counts) (p : ℕ) (k : Counts) → p < length ks → standing_in (set ks p k) + (at ks p).standing ≡ standing_in ks + k.standing
-unfolding standing_in
-standing_set [] p k h = absurd (omega arith)
-standing_set (j ∷ ks) zero k h = omega arith
-standing_set (j ∷ ks) (suc p) k h = let l : p < length ks = omega arith in omega (arith, standing_set ks p k l)
-
-pub standing_at : (ks : List Counts) (p : ℕ) → (at ks p).standing ≤ standing_in ks
-unfolding standing_in
-standing_at [] p = omega arith
-standing_at (k ∷ ks) zero = omega arith
-standing_at (k ∷ ks) (suc p) = omega (arith, standing_at ks p)
-
-pub small_set : (ks : List Counts) (p : ℕ) (k : Counts) → small ks ≡ true → k.standing ≤ 65535 → small (set ks p k) ≡ true
+pub small_set : (rs : List Row) (p : ℕ) (r : Row) → small (counts_of rs) ≡ true → r.counts.standing ≤ 65535 → small (counts_of (set rs p r)) ≡ true
 unfolding small
-small_set [] p k h l = h
-small_set (j ∷ ks) zero k h l = and_from _ _ (le-leb k.standing 65535 l) (and_parts (leb j.standing 65535) (small ks) h).1
-small_set (j ∷ ks) (suc p) k h l = let s = and_parts (leb j.standing 65535) (small ks) h in and_from _ _ s.0 (small_set ks p k s.1 l)
-
-pub small_none : (n : ℕ) (r : Row) → r.counts.standing ≡ 0 → small (counts_of (replicate n r)) ≡ true
-unfolding small counts_of
-small_none zero r e = refl
-small_none (suc n) r e = and_from _ _ (le-leb r.counts.standing 65535 (omega arith)) (small_none n r e)
-
-pub standing_none : (n : ℕ) (r : Row) → r.counts.standing ≡ 0 → 0 ≡ standing_in (counts_of (replicate n r))
-unfolding standing_in counts_of
-standing_none zero r e = refl
-standing_none (suc n) r e = omega (arith, standing_none n r e)
-
--- Rows that are all the same
-
-pub counts_replicate : (n : ℕ) (r : Row) → counts_of (replicate n r) ≡ replicate n r.counts
-unfolding counts_of
-counts_replicate zero r = refl
-counts_replicate (suc n) r = ap (λ (ks : List Counts). r.counts ∷ ks) (counts_replicate n r)
-
-pub links_replicate : (n : ℕ) (r : Row) → links_of (replicate n r) ≡ replicate n r.link
-unfolding links_of
-links_replicate zero r = refl
-links_replicate (suc n) r = ap (λ (ls : List (Option Link)). r.link ∷ ls) (links_replicate n r)
+small_set rs p r h l =
+    let fits = λ (k : Counts). leb k.standing 65535 in
+    let all = All-set (λ (k : Counts). fits k ≡ true) (counts_of rs) p r.counts (le-leb r.counts.standing 65535 l) (AllPass-from_list_all fits (counts_of rs) h) in
+    ap small (counts_set rs p r) ∙ list_all-from_AllPass fits (set (counts_of rs) p r.counts) all

@@ -1,5 +1,6 @@
 -- The rows of a table by place: the counts and the links apart, and the elements standing in all.
-use Rattle.std.specs.Prelude.{ℕ, ◌+◌, Bool, true, ◌&&◌, List, [], ◌∷◌, map, None, Option, nat_le, slice_index_or}
+use Rattle.std.specs.Prelude.{ℕ, Bool, List, map, None, Option, nat_le, slice_index_or}
+use Rattle.std.specs.List.{list_all, sum_by}
 use Rattle.cells.specs.declared.row.Counts.{Counts}
 use Rattle.cells.specs.declared.row.Link.{Link}
 use Rattle.cells.specs.declared.row.Row.{Row}
@@ -27,10 +28,8 @@ free_row = record { counts = none; link = at_rest }
 
 -- the elements standing in all cells
 unfoldable pub standing_in : List Counts → ℕ
-standing_in [] = 0
-standing_in (k ∷ ks) = k.standing + standing_in ks
+standing_in = sum_by (λ k. k.standing)
 
 -- in no cell stand more elements than 16 bits can count
 unfoldable pub small : List Counts → Bool
-small [] = true
-small (k ∷ ks) = nat_le k.standing 65535 && small ks
+small = list_all (λ k. nat_le k.standing 65535)

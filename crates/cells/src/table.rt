@@ -5,7 +5,6 @@ ghost use Rattle.cells.specs.Counts.{none};
 ghost use Rattle.cells.specs.Rows.{at, link_at, at_rest, counts_of, links_of, standing_in, free_row, small};
 
 use crate::row::{Link, Row};
-use std::mem;
 
 /// A row for each place that a memory can have, and how many elements stand in all of them.
 #[derive(Drop)]
@@ -17,6 +16,7 @@ pub struct Table {
     ghost sum: { standing ≡ standing_in (counts_of rows) },
 }
 
+#[tactic(auto, unfolding(crate::specs::Rows::counts_of, crate::specs::Rows::links_of))]
 impl Table {
     /// A table without cells.
     pub fn new() -> Table
@@ -49,11 +49,10 @@ impl Table {
         ensures counts { counts_of self.new.rows ≡ slice_set (counts_of self.old.rows) p row.counts }
         ensures links { links_of self.new.rows ≡ slice_set (links_of self.old.rows) p row.link }
     {
-        // By index: what `get_mut` lends is not known to come back where it was.
         if p < 1024 {
-            let old = mem::replace(&mut self.rows[p], row);
-            self.standing = self.standing - usize::from(old.counts.standing)
-                + usize::from(row.counts.standing);
+            let old = self.rows[p].counts.standing;
+            self.rows[p] = row;
+            self.standing = self.standing - usize::from(old) + usize::from(row.counts.standing);
         }
     }
 

@@ -118,7 +118,7 @@ impl<A: Allocator> Store<A> {
         if cell.counts.strong == 0 {
             return self.begin(p, back, receipt);
         }
-use cells::{Cell, Link, Row};
-use element::Sort;
+        self.table.put(p, Row::from(cell));
+        back
     }
 }

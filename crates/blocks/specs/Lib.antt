@@ -2,6 +2,7 @@ pub mod Belows
 pub mod Blocks
 pub mod Declines
 pub mod Edits
+pub mod FirstFit
 pub mod Fits
 pub mod Gaps
 pub mod Kinds
@@ -10,4 +11,3 @@ pub mod Meaning
 pub mod Rules
 pub mod Slots
 pub mod Soundness
-pub mod Taken

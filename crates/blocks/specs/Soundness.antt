@@ -9,7 +9,7 @@ use Rattle.blocks.specs.declared.block.Block.{Block}
 use Rattle.blocks.specs.Blocks.{block, Apart}
 use Rattle.blocks.specs.Slots.{slots_out}
 
-apart_prop : (extent from : ℕ) (bs : List Block) → IsProp (Apart extent from bs)
+pub apart_prop : (extent from : ℕ) (bs : List Block) → IsProp (Apart extent from bs)
 apart_prop extent from [] = le_prop
 apart_prop extent from (b ∷ bs) = ×₃_prop le_prop le_prop (apart_prop extent (b.offset + b.len) bs)
 

@@ -3,26 +3,20 @@ use Rattle.blocks.proofs.Fitted.{fit_used, fit_hands_out, fit_more_apart, fit_mo
 use Rattle.blocks.proofs.first_fit.FirstFitAllocator.allocate.Goals as goal
 
 pub overflow_add-self : goal.overflow_add-self
-overflow_add-self c = let e = c.in-Some.ensures in omega (arith, fit_used c.args.self.now, e.2.inside)
+overflow_add-self c =
+    let e = rw c.in_ok-gap.ensures.ok_part at c.gap_for.ensures in
+    omega (arith, fit_used c.args.self.now, e.2.inside)
 
 pub invariant_of-self : goal.invariant_of-self
 invariant_of-self c =
-    let f = c.args.self.now in
-    let g = c.in-Some.gap in
-    let e = c.in-Some.ensures in
+    let e = rw c.in_ok-gap.ensures.ok_part at c.gap_for.ensures in
     record {
-      size = f.size;
-      apart = ∣ fit_more_apart f _ c.args.n g.offset g.line e.0 e.1 e.2 c.put_in.ensures ∣₁;
-      counted = fit_more f _ c.args.n g.offset g.line e.0 e.1 e.2 c.put_in.ensures;
+      size = c.args.self.now.size;
+      apart = fit_more_apart c.args.self.now _ c.args.n c.in_ok-gap.gap e c.insert.ensures.items;
+      counted = fit_more c.args.self.now _ c.args.n c.in_ok-gap.gap e c.insert.ensures.items;
     }
 
-pub returns : goal.returns
-returns c =
-    let g = c.in-Some.gap in
-    let e = c.in-Some.ensures in
-    record {
-      hands_out =
-          fit_hands_out c.args.self.now _ c.args.n g.offset g.line e.0 e.1 e.2
-          c.put_in.ensures;
-      lowest = e.2.lowest;
-    }
+pub returns-clause-hands_out : goal.returns-clause-hands_out
+returns-clause-hands_out c =
+    fit_hands_out c.args.self.now _ c.args.n c.in_ok-gap.gap
+    (rw c.in_ok-gap.ensures.ok_part at c.gap_for.ensures) c.insert.ensures.items

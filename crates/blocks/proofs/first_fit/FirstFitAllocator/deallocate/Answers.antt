@@ -5,20 +5,15 @@ use Rattle.blocks.proofs.first_fit.FirstFitAllocator.deallocate.Goals as goal
 
 pub overflow_sub-self : goal.overflow_sub-self
 overflow_sub-self c =
-    let e = c.in-Some.ensures in
-    omega (
-      arith,
-      fit_less c.args.self.now _ (block c.args.offset c.args.n) c.in-Some.line e.1
-          e.2 c.take_out.ensures,
-    )
+    let e = rw c.in_ok-line.ensures.ok_part at c.line_of.ensures in
+    omega (arith, fit_less c.args.self.now _ (block c.args.offset c.args.n) c.in_ok-line.line e c.remove.ensures.items)
 
 pub invariant_of-self : goal.invariant_of-self
 invariant_of-self c =
-    let f = c.args.self.now in
     let b = block c.args.offset c.args.n in
-    let e = c.in-Some.ensures in
+    let e = rw c.in_ok-line.ensures.ok_part at c.line_of.ensures in
     record {
-      size = f.size;
-      apart = ∣ fit_less_apart f _ b c.in-Some.line e.1 e.2 c.take_out.ensures ∣₁;
-      counted = omega (arith, fit_less f _ b c.in-Some.line e.1 e.2 c.take_out.ensures);
+      size = c.args.self.now.size;
+      apart = fit_less_apart c.args.self.now _ b c.in_ok-line.line e c.remove.ensures.items;
+      counted = omega (arith, fit_less c.args.self.now _ b c.in_ok-line.line e c.remove.ensures.items);
     }

@@ -1,10 +1,11 @@
 -- The line of a block.
-use Rattle.std.proofs.Common.{◌≡◌, ℕ, zero, suc, ◌<◌, true, false, List, [], ◌∷◌, length, ap, ◌∙◌, refl, Option, Some, None, arith}
+use Rattle.std.proofs.Common.{◌≡◌, ℕ, zero, suc, ◌<◌, ◌≤◌, true, false, List, [], ◌∷◌, length, sym, ap, subst, ◌∙◌, refl, Option, Some, None, arith}
 use Rattle.std.specs.Option.{MatchOption}
-use Rattle.std.specs.List.{AllWithin, HoldsAt}
+use Rattle.std.specs.List.{AllWithin, HoldsAt, remove as removed}
 use Rattle.std.proofs.lemmas.Bool.{cond-true, cond-false, or_left, or_right, or_from}
 use Rattle.blocks.specs.declared.block.Block.{Block}
-use Rattle.blocks.specs.Blocks.{same, member}
+use Rattle.blocks.specs.Blocks.{Apart, total, same, member}
+use Rattle.blocks.specs.Edits.{total_remove, apart_remove}
 use Rattle.blocks.specs.Lined.{LineOf}
 
 -- the first line that has the block
@@ -29,3 +30,12 @@ pub line_found : (x : Block) (bs : List Block) (r : Option ℕ)
     → MatchOption r (AllWithin (λ b. same x b ≡ false) bs 0 (length bs)) (IsFirstLine x bs) → LineOf x bs r
 line_found x bs None m = line_none x bs m
 line_found x bs (Some i) m = line_first x bs i m
+
+-- without it the others stay apart
+pub apart_removed : (extent line : ℕ) (x : Block) (bs cs : List Block) → cs ≡ removed bs line → LineOf x bs (Some line)
+    → Apart extent 0 bs → Apart extent 0 cs
+apart_removed extent line x bs cs took found a =
+    subst (Apart extent 0) (found.2 ∙ sym took) (apart_remove extent 0 x bs a)
+
+pub len_le_total : (line : ℕ) (x : Block) (bs : List Block) → LineOf x bs (Some line) → x.len ≤ total bs
+len_le_total line x bs found = omega (arith, total_remove x bs found.1)

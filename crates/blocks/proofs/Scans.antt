@@ -7,7 +7,7 @@ use Rattle.blocks.specs.declared.block.Block.{Block}
 use Rattle.blocks.specs.Blocks.{block, Apart, insert, clear}
 use Rattle.blocks.specs.Gaps.{GapAt}
 use Rattle.blocks.specs.Rules.{has_gap}
-use Rattle.blocks.specs.Edits.{total_le}
+use Rattle.blocks.specs.Edits.{total_le, apart_insert}
 use Rattle.blocks.specs.Fits.{has_gap_none}
 
 pub apart_le : (extent from : ℕ) (bs : List Block) → Apart extent from bs → from ≤ extent
@@ -116,11 +116,13 @@ gap_insert n extent from (b ∷ bs) x some a e =
 pub gap_found : (n extent : ℕ) (bs : List Block) → 0 < n → Apart extent 0 bs → gap_at n 0 bs + n ≤ extent
     → GapAt extent n bs (gap_at n 0 bs) (gap_line n 0 bs)
 gap_found n extent bs some a l =
+    let free = gap_free n extent 0 bs a in
     record {
       inside = l;
-      free = gap_free n extent 0 bs a;
+      free = free;
       lowest = λ p h. gap_lowest n extent 0 bs some a p (omega arith) h;
       within = gap_within n 0 bs;
+      apart = apart_insert extent 0 (block (gap_at n 0 bs) n) bs some (omega arith) l free a;
       place = gap_insert n extent 0 bs (block (gap_at n 0 bs) n) some a refl;
     }
 

@@ -79,6 +79,7 @@ impl Allocator for FirstFit {
     }
 
     /// Takes the lowest gap.
+    #[tactic(auto, using(crate::specs::Edits::total_insert, crate::specs::Edits::total_le, crate::specs::Fits::has_gap_at))]
     fn allocate(&mut self, n: usize) -> Result<usize, Decline>
         ensures hands_out { Allocates meaning_of self.old n result self.new }
         ensures lowest { LowestGap n self.old.table.items result }
@@ -93,6 +94,7 @@ impl Allocator for FirstFit {
         Ok(gap.offset)
     }
 
+    #[tactic(auto, using(crate::specs::Edits::total_remove, crate::proofs::Placed::apart_removed, crate::proofs::Placed::len_le_total))]
     fn deallocate(&mut self, offset: usize, n: usize) -> Result<(), Decline> {
         let block = Block { offset, len: n };
         let line = self.line_of(block).ok_or(Decline::NotOut)?;

@@ -8,6 +8,7 @@ pub mod Gaps
 pub mod Kinds
 pub mod Lined
 pub mod Meaning
+pub mod Pool
 pub mod Rules
 pub mod Slots
 pub mod Soundness

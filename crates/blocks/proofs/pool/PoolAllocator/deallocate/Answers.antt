@@ -4,23 +4,23 @@ use Rattle.blocks.proofs.pool.PoolAllocator.deallocate.Goals as goal
 
 pub free-requires : goal.free-requires
 free-requires c =
-    let e = c.in-Some.ensures in omega (arith, pool_place c.args.self.now c.in-Some.k (omega arith))
+    let e = rw c.in_ok-k.ensures.ok_part at c.slot_of.ensures in omega (arith, pool_place c.args.self.now c.in_ok-k.k (omega arith))
 
 pub overflow_sub-self : goal.overflow_sub-self
 overflow_sub-self c =
-    let e = c.in-Some.ensures in
+    let e = rw c.in_ok-k.ensures.ok_part at c.slot_of.ensures in
     omega (
       arith,
       pool_less c.args.self.now c.free.new.self.lens c.args.offset c.args.n
-          c.in-Some.k e.0 e.1 e.2 c.free.ensures,
+          c.in_ok-k.k e.0 e.1 e.2 c.free.ensures,
     )
 
 pub invariant_of-self : goal.invariant_of-self
 invariant_of-self c =
     let p = c.args.self.now in
     let ls = c.free.new.self.lens in
-    let i = c.in-Some.k in
-    let e = c.in-Some.ensures in
+    let i = c.in_ok-k.k in
+    let e = rw c.in_ok-k.ensures.ok_part at c.slot_of.ensures in
     let put = c.free.ensures in
     record {
       sizes = p.sizes;
@@ -31,6 +31,6 @@ invariant_of-self c =
 
 pub returns : goal.returns
 returns c =
-    let e = c.in-Some.ensures in
-    pool_takes_back c.args.self.now c.free.new.self.lens c.args.offset c.args.n c.in-Some.k
+    let e = rw c.in_ok-k.ensures.ok_part at c.slot_of.ensures in
+    pool_takes_back c.args.self.now c.free.new.self.lens c.args.offset c.args.n c.in_ok-k.k
     e.0 e.1 e.2 c.free.ensures

@@ -20,7 +20,7 @@ impl Decline {
             Decline::References => 7,
             Decline::Shared => 8,
             Decline::Count => 9,
-            Decline::Allocator(why) => why.number(),
+            Decline::Allocator(why) => u8::from(why),
         }
     }
 }

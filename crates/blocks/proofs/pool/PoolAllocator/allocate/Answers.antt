@@ -14,16 +14,12 @@ overflow_add-self c = omega (arith, pool_used c.args.self.now)
 pub invariant_of-self : goal.invariant_of-self
 invariant_of-self c =
     let p = c.args.self.now in
-    let ls = c.fill.new.self.lens in
-    let n = c.args.n in
-    let i = c.in_ok-k.k in
     let e = rw c.in_ok-k.ensures.ok_part at c.lowest_free.ensures in
-    let put = c.fill.ensures in
     record {
       sizes = p.sizes;
-      held = pool_more_held p ls n i (omega arith) (omega arith) e.0 e.1 put;
-      inside = pool_more_inside p ls n i (omega arith) (omega arith) e.0 e.1 put;
-      counted = pool_more p ls n i (omega arith) (omega arith) e.0 e.1 put;
+      held = pool_more_held p _ c.args.n c.in_ok-k.k (omega arith) (omega arith) e c.fill.ensures;
+      inside = pool_more_inside p _ c.args.n c.in_ok-k.k (omega arith) (omega arith) e c.fill.ensures;
+      counted = pool_more p _ c.args.n c.in_ok-k.k (omega arith) (omega arith) e c.fill.ensures;
     }
 
 pub returns : goal.returns
@@ -31,8 +27,6 @@ returns c =
     let p = c.args.self.now in
     let e = rw c.in_ok-k.ensures.ok_part at c.lowest_free.ensures in
     record {
-      hands_out =
-          pool_hands_out p c.fill.new.self.lens c.args.n c.in_ok-k.k (omega arith) (omega arith) e.0
-          e.1 c.fill.ensures;
-      lowest = pool_lowest p c.in_ok-k.k e.2;
+      hands_out = pool_hands_out p _ c.args.n c.in_ok-k.k (omega arith) (omega arith) e c.fill.ensures;
+      lowest = pool_lowest p _ c.args.n c.in_ok-k.k (omega arith) (omega arith) e c.fill.ensures;
     }

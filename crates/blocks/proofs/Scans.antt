@@ -124,9 +124,6 @@ module _ {n extent : ℕ} {bs : List Block} {i from : ℕ} (w : Walked n extent 
     onward : Apart extent from (line_at bs i ∷ drop (i + 1) bs)
     onward = subst (Apart extent from) more w.ahead
 
-    pub walked_before : from ≤ (line_at bs i).offset
-    walked_before = onward.0
-
     pub walked_inside : (line_at bs i).offset + (line_at bs i).len ≤ extent
     walked_inside = apart_le extent ((line_at bs i).offset + (line_at bs i).len) (drop (i + 1) bs) onward.2
 
@@ -148,9 +145,6 @@ module _ {n extent : ℕ} {bs : List Block} {i from : ℕ} (w : Walked n extent 
         let at : gap_at n 0 bs ≡ from = w.at ∙ ap (gap_at n from) more ∙ g.0 in
         let line : gap_line n 0 bs ≡ i = omega (arith, w.line, ap (gap_line n from) more, g.1) in
         subst₂ (GapAt extent n bs) at line (gap_found n extent bs w.some w.apart (omega (arith, walked_inside)))
-
-  pub walked_end : from ≤ extent
-  walked_end = apart_le extent from (drop i bs) w.ahead
 
   module _ (done : i ≡ length bs) where
     over : drop i bs ≡ []

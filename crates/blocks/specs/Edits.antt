@@ -5,9 +5,6 @@ use Rattle.std.proofs.lemmas.Grind.{common_steps}
 use Rattle.blocks.specs.declared.block.Block.{Block}
 use Rattle.blocks.specs.Blocks.{Apart, total, same, member, insert, remove, clear}
 
-pub same_is : (x y : Block) → same x y ≡ true → x ≡ y
-same_is x y e = grind (arith, common_steps)
-
 pub total_insert : (x : Block) (bs : List Block) → total (insert x bs) ≡ x.len + total bs
 total_insert x [] = refl
 total_insert x (b ∷ bs) = grind (arith, common_steps, total_insert x bs)
@@ -32,9 +29,6 @@ clear_remove p n x (b ∷ bs) h = grind (arith, common_steps, clear_remove p n x
 pub total_le : (extent from : ℕ) (bs : List Block) → Apart extent from bs → from + total bs ≤ extent
 total_le extent from [] a = omega arith
 total_le extent from (b ∷ bs) a = let a0 = a.0 in omega (arith, total_le extent (b.offset + b.len) bs a.2)
-
-pub not_same : (x y : Block) → (x.offset ≡ y.offset → x.len ≢ y.len) → same x y ≡ false
-not_same x y f = grind (arith, common_steps)
 
 -- where a longer block is clear, so is a shorter one
 pub clear_shorter : (p m n : ℕ) (bs : List Block) → m ≤ n → clear p n bs ≡ true → clear p m bs ≡ true

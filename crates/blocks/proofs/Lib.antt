@@ -2,4 +2,3 @@ mod Slotted
 mod Pools
 mod Scans
 mod Placed
-mod Fitted

@@ -1,13 +1,14 @@
 -- A walk over blocks apart, from one to the next, that stops at the first gap of n.
-use Rattle.std.proofs.Common.{◌≡◌, ℕ, suc, ◌+◌, ◌<◌, ◌≤◌, true, false, cond, leb, List, [], ◌∷◌, length, get_or, drop, sym, refl, ap, ◌∙◌, subst, subst₂, ⊎_elim, arith}
+use Rattle.std.proofs.Common.{◌≡◌, ℕ, suc, ◌+◌, ◌<◌, ◌≤◌, true, false, cond, leb, List, [], ◌∷◌, length, get_or, drop, refl, ap, ◌∙◌, subst, subst₂, arith}
 use Rattle.std.specs.List.{insert as inserted}
 use Rattle.std.proofs.lemmas.List.{drop_more, drop_all}
-use Rattle.std.proofs.lemmas.Bool.{cases_lt, cond-true, cond-false, lt-ltb, le-ltb, le-leb, lt-leb, and_from, and_left, and_right, or_left, or_right, or_from}
+use Rattle.std.proofs.lemmas.Bool.{cond-true, cond-false, le-leb, lt-leb}
+use Rattle.std.proofs.lemmas.Grind.{common_steps}
 use Rattle.blocks.specs.declared.block.Block.{Block}
 use Rattle.blocks.specs.Blocks.{block, Apart, insert, clear}
 use Rattle.blocks.specs.Gaps.{GapAt}
 use Rattle.blocks.specs.Rules.{has_gap}
-use Rattle.blocks.specs.Edits.{total_le}
+use Rattle.blocks.specs.Edits.{total_le, apart_insert}
 use Rattle.blocks.specs.Fits.{has_gap_none}
 
 pub apart_le : (extent from : ℕ) (bs : List Block) → Apart extent from bs → from ≤ extent
@@ -39,88 +40,62 @@ unfolding gap_at gap_line
 gap_past n from b bs l = let t = lt-leb (from + n) b.offset l in (cond-false _ _ _ t, cond-false _ _ _ t)
 
 gap_from : (n extent from : ℕ) (bs : List Block) → Apart extent from bs → from ≤ gap_at n from bs
-gap_from n extent from [] a = omega (arith, (gap_end n from).0)
+unfolding gap_at
+gap_from n extent from [] a = omega arith
 gap_from n extent from (b ∷ bs) a =
-    ⊎_elim
-    (λ (l : b.offset < from + n). let a0 = a.0 in omega
-    (arith, (gap_past n from b bs l).0, gap_from n extent (b.offset + b.len) bs a.2))
-    (λ (l : from + n ≤ b.offset). omega (arith, (gap_here n from b bs l).0))
-    (cases_lt b.offset (from + n))
+    let a0 = a.0 in let a1 = a.1 in let r = gap_from n extent (b.offset + b.len) bs a.2 in grind (arith, common_steps)
 
 gap_within : (n from : ℕ) (bs : List Block) → gap_line n from bs ≤ length bs
-gap_within n from [] = omega (arith, (gap_end n from).1)
-gap_within n from (b ∷ bs) =
-    ⊎_elim
-    (λ (l : b.offset < from + n). omega (arith, (gap_past n from b bs l).1, gap_within n (b.offset + b.len) bs))
-    (λ (l : from + n ≤ b.offset). omega (arith, (gap_here n from b bs l).1))
-    (cases_lt b.offset (from + n))
+unfolding gap_line
+gap_within n from [] = omega arith
+gap_within n from (b ∷ bs) = let r = gap_within n (b.offset + b.len) bs in grind (arith, common_steps)
 
 -- blocks from `from` on leave the places below it clear
 clear_below : (p n extent from : ℕ) (bs : List Block) → p + n ≤ from → Apart extent from bs → clear p n bs ≡ true
 clear_below p n extent from [] l a = refl
 clear_below p n extent from (b ∷ bs) l a =
     let a0 = a.0 in
-    and_from _ _ (or_left _ _ (le-leb (p + n) b.offset (omega arith)))
-    (clear_below p n extent (b.offset + b.len) bs (omega arith) a.2)
+    let r = clear_below p n extent (b.offset + b.len) bs (omega arith) a.2 in
+    grind (arith, common_steps)
 
 gap_free : (n extent from : ℕ) (bs : List Block) → Apart extent from bs → clear (gap_at n from bs) n bs ≡ true
+unfolding gap_at
 gap_free n extent from [] a = refl
 gap_free n extent from (b ∷ bs) a =
-    ⊎_elim
-    (λ (l : b.offset < from + n).
-    subst (λ (p : ℕ). clear p n (b ∷ bs) ≡ true) (sym (gap_past n from b bs l).0)
-    (and_from _ _ (or_right _ _
-    (le-leb (b.offset + b.len) (gap_at n (b.offset + b.len) bs) (gap_from n extent (b.offset + b.len) bs a.2)))
-    (gap_free n extent (b.offset + b.len) bs a.2)))
-    (λ (l : from + n ≤ b.offset).
-    subst (λ (p : ℕ). clear p n (b ∷ bs) ≡ true) (sym (gap_here n from b bs l).0)
-    (and_from _ _ (or_left _ _ (le-leb (from + n) b.offset l))
-    (clear_below from n extent (b.offset + b.len) bs (omega arith) a.2)))
-    (cases_lt b.offset (from + n))
+    let a0 = a.0 in
+    let f = gap_from n extent (b.offset + b.len) bs a.2 in
+    let r = gap_free n extent (b.offset + b.len) bs a.2 in
+    grind (arith, common_steps, clear_below from n extent (b.offset + b.len) bs)
 
 gap_lowest : (n extent from : ℕ) (bs : List Block) → 0 < n → Apart extent from bs → (p : ℕ) → from ≤ p
     → p < gap_at n from bs → clear p n bs ≡ false
-gap_lowest n extent from [] some a p low high = absurd (omega (arith, (gap_end n from).0))
+unfolding gap_at
+gap_lowest n extent from [] some a p low high = absurd (omega arith)
 gap_lowest n extent from (b ∷ bs) some a p low high =
-    ⊎_elim
-    (λ (l : b.offset < from + n).
-    ⊎_elim
-    (λ (h : p < b.offset + b.len).
-    and_left _ _ (or_from _ _ (lt-leb (p + n) b.offset (omega arith)) (lt-leb (b.offset + b.len) p h)))
-    (λ (h : b.offset + b.len ≤ p).
-    and_right _ _ (gap_lowest n extent (b.offset + b.len) bs some a.2 p h
-    (omega (arith, (gap_past n from b bs l).0))))
-    (cases_lt p (b.offset + b.len)))
-    (λ (l : from + n ≤ b.offset). absurd (omega (arith, (gap_here n from b bs l).0)))
-    (cases_lt b.offset (from + n))
+    let a0 = a.0 in
+    grind (arith, common_steps, gap_lowest n extent (b.offset + b.len) bs some a.2 p)
 
 gap_insert : (n extent from : ℕ) (bs : List Block) (x : Block) → 0 < n → Apart extent from bs
     → x.offset ≡ gap_at n from bs
     → inserted bs (gap_line n from bs) x ≡ insert x bs
-gap_insert n extent from [] x some a e = rw (gap_end n from).1 refl
+unfolding gap_at gap_line
+gap_insert n extent from [] x some a e = refl
 gap_insert n extent from (b ∷ bs) x some a e =
-    ⊎_elim
-    (λ (l : b.offset < from + n).
-    let g = gap_past n from b bs l in
+    let a0 = a.0 in let a1 = a.1 in
     let f = gap_from n extent (b.offset + b.len) bs a.2 in
-    let a1 = a.1 in
-    rw g.1
-    (ap {B = List Block} (λ cs. b ∷ cs) (gap_insert n extent (b.offset + b.len) bs x some a.2 (e ∙ g.0))
-    ∙ sym (cond-false _ _ _ (le-ltb x.offset b.offset (omega (arith, g.0))))))
-    (λ (l : from + n ≤ b.offset).
-    let g = gap_here n from b bs l in
-    rw g.1 (sym (cond-true _ _ _ (lt-ltb x.offset b.offset (omega (arith, g.0))))))
-    (cases_lt b.offset (from + n))
+    grind (arith, common_steps, gap_insert n extent (b.offset + b.len) bs x some a.2)
 
 -- the walk from 0 finds the lowest gap, if there is one
 pub gap_found : (n extent : ℕ) (bs : List Block) → 0 < n → Apart extent 0 bs → gap_at n 0 bs + n ≤ extent
     → GapAt extent n bs (gap_at n 0 bs) (gap_line n 0 bs)
 gap_found n extent bs some a l =
+    let free = gap_free n extent 0 bs a in
     record {
       inside = l;
-      free = gap_free n extent 0 bs a;
+      free = free;
       lowest = λ p h. gap_lowest n extent 0 bs some a p (omega arith) h;
       within = gap_within n 0 bs;
+      apart = apart_insert extent 0 (block (gap_at n 0 bs) n) bs some (omega arith) l free a;
       place = gap_insert n extent 0 bs (block (gap_at n 0 bs) n) some a refl;
     }
 
@@ -149,9 +124,6 @@ module _ {n extent : ℕ} {bs : List Block} {i from : ℕ} (w : Walked n extent 
     onward : Apart extent from (line_at bs i ∷ drop (i + 1) bs)
     onward = subst (Apart extent from) more w.ahead
 
-    pub walked_before : from ≤ (line_at bs i).offset
-    walked_before = onward.0
-
     pub walked_inside : (line_at bs i).offset + (line_at bs i).len ≤ extent
     walked_inside = apart_le extent ((line_at bs i).offset + (line_at bs i).len) (drop (i + 1) bs) onward.2
 
@@ -173,9 +145,6 @@ module _ {n extent : ℕ} {bs : List Block} {i from : ℕ} (w : Walked n extent 
         let at : gap_at n 0 bs ≡ from = w.at ∙ ap (gap_at n from) more ∙ g.0 in
         let line : gap_line n 0 bs ≡ i = omega (arith, w.line, ap (gap_line n from) more, g.1) in
         subst₂ (GapAt extent n bs) at line (gap_found n extent bs w.some w.apart (omega (arith, walked_inside)))
-
-  pub walked_end : from ≤ extent
-  walked_end = apart_le extent from (drop i bs) w.ahead
 
   module _ (done : i ≡ length bs) where
     over : drop i bs ≡ []

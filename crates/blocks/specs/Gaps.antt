@@ -4,7 +4,7 @@ use Rattle.std.specs.List.{insert as inserted}
 use Rattle.blocks.specs.declared.block.Block.{Block}
 use Rattle.blocks.specs.declared.block.Decline.{Decline}
 use Rattle.blocks.specs.declared.gaps.Gap.{Gap}
-use Rattle.blocks.specs.Blocks.{block, insert, clear}
+use Rattle.blocks.specs.Blocks.{block, Apart, insert, clear}
 use Rattle.blocks.specs.Rules.{has_gap, first_fits}
 
 -- no lower offset has a gap of n
@@ -12,12 +12,13 @@ abbrev pub LowestGap : ℕ → List Block → Result ℕ Decline → Type 0
 LowestGap n bs (Ok at) = (p : ℕ) → p < at → clear p n bs ≡ false
 LowestGap n bs (Err e) = Unit {0}
 
--- `at` is the lowest offset with a gap of n, and a block there is the one at `line`
+-- `at` is the lowest offset with a gap of n, and a block there leaves them apart and is the one at `line`
 pub record GapAt (extent n : ℕ) (bs : List Block) (at line : ℕ) : Type 0 where
   pub inside : at + n ≤ extent
   pub free : clear at n bs ≡ true
   pub lowest : (p : ℕ) → p < at → clear p n bs ≡ false
   pub within : line ≤ length bs
+  pub apart : Apart extent 0 (insert (block at n) bs)
   pub place : inserted bs line (block at n) ≡ insert (block at n) bs
 
 -- the lowest gap of n, if there is one

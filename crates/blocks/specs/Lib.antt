@@ -2,12 +2,13 @@ pub mod Belows
 pub mod Blocks
 pub mod Declines
 pub mod Edits
+pub mod FirstFit
 pub mod Fits
 pub mod Gaps
 pub mod Kinds
 pub mod Lined
 pub mod Meaning
+pub mod Pool
 pub mod Rules
 pub mod Slots
 pub mod Soundness
-pub mod Taken

@@ -1,7 +1,7 @@
 //! Blocks, and what an allocator answers where it cannot serve.
 
 /// A block: the places from `offset` on, `len` of them.
-#[derive(Clone, Copy, PartialEq, Eq, Debug)]
+#[derive(Clone, Copy, PartialEq, Eq, Default, Debug)]
 pub struct Block {
     pub offset: usize,
     pub len: usize,

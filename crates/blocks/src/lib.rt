@@ -6,7 +6,6 @@ mod allocator;
 mod block;
 mod first_fit;
 mod gaps;
-mod lines;
 mod numbers;
 mod pool;
 mod quota;

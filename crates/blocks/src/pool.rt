@@ -2,7 +2,6 @@
 
 ghost use Rattle.std.specs.Prelude.{◌≡◌, ℕ, ◌+◌, ◌*◌, ◌/◌, ◌<◌, ◌≤◌, min, max, [], slice_index};
 ghost use Rattle.blocks.specs.Blocks.{total};
-ghost use Rattle.blocks.specs.Kinds.{pool_with};
 ghost use Rattle.blocks.specs.Meaning.{Allocates};
 ghost use Rattle.blocks.specs.Slots.{slots_out, LowestSlot, LowestFree, SlotOf};
 ghost use Rattle.blocks.specs.Fits.{pool_one, pool_fewer};
@@ -48,12 +47,7 @@ impl Pool {
             (self.now.extent / self.now.unit)
             self.now.slots.lens result }
     {
-        for k in 0..self.extent / self.unit {
-            if self.slots.get(k) == 0 {
-                return Some(k);
-            }
-        }
-        None
+        (0..self.extent / self.unit).find(|&k| self.slots.get(k) == 0)
     }
 
     // The slot of a block that is out.
@@ -72,7 +66,9 @@ impl Pool {
 }
 
 impl Allocator for Pool {
-    ghost meaning = { λ s. pool_with s.extent s.unit (slots_out s.unit 0 s.slots.lens) };
+    ghost use Rattle.blocks.specs.Pool.{meaning_of};
+
+    ghost meaning = { meaning_of };
 
     ghost small = { Prim.search rules };
 
@@ -94,9 +90,7 @@ impl Allocator for Pool {
 
     /// Takes the lowest free slot.
     fn allocate(&mut self, n: usize) -> Result<usize, Decline>
-        ensures hands_out { Allocates
-            (λ (p : Pool). pool_with p.extent p.unit (slots_out p.unit 0 p.slots.lens))
-            self.old n result self.new }
+        ensures hands_out { Allocates meaning_of self.old n result self.new }
         ensures lowest { LowestSlot
             self.old.unit
             (slots_out self.old.unit 0 self.old.slots.lens) result }
@@ -104,18 +98,14 @@ impl Allocator for Pool {
         if n == 0 || n > self.unit {
             return Err(Decline::Unfit);
         }
-        let Some(k) = self.lowest_free() else {
-            return Err(Decline::Unfit);
-        };
+        let k = self.lowest_free().ok_or(Decline::Unfit)?;
         self.slots.fill(k, n as u16);
         self.used += n;
         Ok(k * self.unit)
     }
 
     fn deallocate(&mut self, offset: usize, n: usize) -> Result<(), Decline> {
-        let Some(k) = self.slot_of(offset, n) else {
-            return Err(Decline::NotOut);
-        };
+        let k = self.slot_of(offset, n).ok_or(Decline::NotOut)?;
         self.slots.free(k);
         self.used -= n;
         Ok(())

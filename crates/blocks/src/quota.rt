@@ -9,29 +9,23 @@ ghost use Rattle.std.proofs.Common.{rules};
 use crate::allocator::Allocator;
 use crate::block::Decline;
 
-// How many places may be out: at least 1.
-#[derive(Clone, Copy)]
-struct Limit {
-    most: usize,
-    ghost some: { 1 ≤ most },
-}
-
 /// An allocator that serves from another one, while no more places than its limit are out.
 #[derive(Drop)]
 pub struct Quota<A> {
     below: A,
-    limit: Limit,
+    limit: usize,
+    ghost some: { 1 ≤ limit },
 }
 
 impl<A: Allocator> Quota<A> {
     /// Puts a limit, at least 1, over an allocator.
     pub fn open(below: A, limit: usize) -> Quota<A>
         ensures below { result.below ≡ below }
-        ensures limit { result.limit.most ≡ max 1 limit }
+        ensures limit { result.limit ≡ max 1 limit }
     {
         Quota {
             below,
-            limit: Limit { most: limit.max(1) },
+            limit: limit.max(1),
         }
     }
 
@@ -39,23 +33,21 @@ impl<A: Allocator> Quota<A> {
     pub fn close(self) -> A
         ensures { result ≡ self.below }
     {
-        let Quota { below, limit: _ } = self;
-        below
+        self.below
     }
 
     // Whether `n` places more keep within the limit.
     fn has_room(&self, n: usize) -> bool
         ensures { result ≡ nat_le
             (total (A.Allocator.meaning self.now.below).out + n)
-            self.now.limit.most }
+            self.now.limit }
     {
-        let most = self.limit.most;
-        n <= most && self.below.used() <= most - n
+        n <= self.limit && self.below.used() <= self.limit - n
     }
 }
 
 impl<A: Allocator> Allocator for Quota<A> {
-    ghost meaning = { λ s. quota_over s.limit.most (A.Allocator.meaning s.below) };
+    ghost meaning = { λ s. quota_over s.limit (A.Allocator.meaning s.below) };
 
     ghost small = { Prim.search rules };
 
@@ -66,7 +58,7 @@ impl<A: Allocator> Allocator for Quota<A> {
     ghost one = { Prim.search rules };
 
     ghost fewer = { λ a b bs n h.
-        quota_fewer a.limit.most (A.Allocator.meaning a.below).fits b bs n
+        quota_fewer a.limit (A.Allocator.meaning a.below).fits b bs n
         (A.Allocator.fewer a.below b bs n) h };
 
     fn extent(&self) -> usize {
@@ -81,12 +73,10 @@ impl<A: Allocator> Allocator for Quota<A> {
         if !self.has_room(n) {
             return Err(Decline::Unfit);
         }
-        let at = self.below.allocate(n)?;
-        Ok(at)
+        self.below.allocate(n)
     }
 
     fn deallocate(&mut self, offset: usize, n: usize) -> Result<(), Decline> {
-        self.below.deallocate(offset, n)?;
-        Ok(())
+        self.below.deallocate(offset, n)
     }
 }

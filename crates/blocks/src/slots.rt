@@ -8,6 +8,7 @@ const SLOTS: usize = 1024;
 /// For each slot the length of the block in it, and 0 where the slot is free.
 #[derive(Drop)]
 pub(crate) struct Slots {
+    // No block has length 0: an `Option` would say free in two ways, `None` and `Some(0)`.
     lens: [u16; SLOTS],
     ghost full: { length lens ≡ 1024 },
 }
@@ -25,7 +26,7 @@ impl Slots {
     pub(crate) fn get(&self, k: usize) -> u16
         ensures { result ≡ slice_index self.now.lens k }
     {
-        if k < SLOTS { self.lens[k] } else { 0 }
+        self.lens.get(k).copied().unwrap_or(0)
     }
 
     /// Puts a block of `n` places into slot `k`.

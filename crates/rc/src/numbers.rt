@@ -21,7 +21,7 @@ impl From<Decline> for u8 {
             Decline::References => 7,
             Decline::Shared => 8,
             Decline::Count => 9,
-            Decline::Allocator(why) => why.number(),
+            Decline::Allocator(why) => u8::from(why),
         }
     }
 }

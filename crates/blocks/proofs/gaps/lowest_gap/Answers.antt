@@ -1,16 +1,12 @@
-use Rattle.std.proofs.Common.{sym, ◌∙◌, arith}
-use Rattle.std.proofs.lemmas.Bool.{leb-true, leb-false}
-use Rattle.blocks.proofs.Scans.{walked_before, walked_inside, walked_past, walked_here, walked_end, walked_found}
+use Rattle.std.proofs.Common.{arith, rules, tests}
+use Rattle.blocks.proofs.Scans.{walked_inside, walked_past, walked_here, walked_found}
 use Rattle.blocks.proofs.Scans.{walked_missed}
 use Rattle.blocks.proofs.gaps.lowest_gap.Goals as goal
-
-pub has_room-requires : goal.has_room-requires
-has_room-requires c = walked_before c.loop-line.invariant c.loop-line-test.true
 
 pub returns-then-has_room : goal.returns-then-has_room
 returns-then-has_room c =
     walked_here c.loop-line.invariant c.loop-line-test.true
-    (leb-true _ _ (sym c.has_room.ensures ∙ c.if-has_room.true))
+    (search (rules, tests))
 
 pub overflow_add-from : goal.overflow_add-from
 overflow_add-from c = omega (arith, walked_inside c.loop-line.invariant c.loop-line-test.true)
@@ -18,17 +14,14 @@ overflow_add-from c = omega (arith, walked_inside c.loop-line.invariant c.loop-l
 pub loop-line-preserved : goal.loop-line-preserved
 loop-line-preserved c =
     walked_past c.loop-line.invariant c.loop-line-test.true
-    (leb-false _ _ (sym c.has_room.ensures ∙ c.if-has_room.false))
-
-pub has_room-requires-2 : goal.has_room-requires-2
-has_room-requires-2 c = walked_end c.loop-line.invariant
+    (search (rules, tests))
 
 pub returns-then-has_room-2 : goal.returns-then-has_room-2
 returns-then-has_room-2 c =
     walked_found c.loop-line.invariant (omega arith)
-    (leb-true _ _ (sym c.has_room-2.ensures ∙ c.if-has_room-2.true))
+    (search (rules, tests))
 
 pub returns-else-has_room-2 : goal.returns-else-has_room-2
 returns-else-has_room-2 c =
     walked_missed c.loop-line.invariant (omega arith)
-    (leb-false _ _ (sym c.has_room-2.ensures ∙ c.if-has_room-2.false))
+    (search (rules, tests))

@@ -4,33 +4,27 @@ use Rattle.blocks.proofs.pool.PoolAllocator.deallocate.Goals as goal
 
 pub free-requires : goal.free-requires
 free-requires c =
-    let e = c.in-Some.ensures in omega (arith, pool_place c.args.self.now c.in-Some.k (omega arith))
+    let e = rw c.in_ok-k.ensures.ok_part at c.slot_of.ensures in
+    let f = c.args.self.now.slots.full in
+    omega (arith, pool_place c.args.self.now c.in_ok-k.k (omega arith))
 
 pub overflow_sub-self : goal.overflow_sub-self
 overflow_sub-self c =
-    let e = c.in-Some.ensures in
-    omega (
-      arith,
-      pool_less c.args.self.now c.free.new.self.lens c.args.offset c.args.n
-          c.in-Some.k e.0 e.1 e.2 c.free.ensures,
-    )
+    let e = rw c.in_ok-k.ensures.ok_part at c.slot_of.ensures in
+    omega (arith, pool_less c.args.self.now _ c.args.offset c.args.n c.in_ok-k.k e c.free.ensures)
 
 pub invariant_of-self : goal.invariant_of-self
 invariant_of-self c =
     let p = c.args.self.now in
-    let ls = c.free.new.self.lens in
-    let i = c.in-Some.k in
-    let e = c.in-Some.ensures in
-    let put = c.free.ensures in
+    let e = rw c.in_ok-k.ensures.ok_part at c.slot_of.ensures in
     record {
       sizes = p.sizes;
-      held = pool_less_held p ls c.args.offset c.args.n i e.0 e.1 e.2 put;
-      inside = pool_less_inside p ls c.args.offset c.args.n i e.0 e.1 e.2 put;
-      counted = omega (arith, pool_less p ls c.args.offset c.args.n i e.0 e.1 e.2 put);
+      held = pool_less_held p _ c.args.offset c.args.n c.in_ok-k.k e c.free.ensures;
+      inside = pool_less_inside p _ c.args.offset c.args.n c.in_ok-k.k e c.free.ensures;
+      counted = omega (arith, pool_less p _ c.args.offset c.args.n c.in_ok-k.k e c.free.ensures);
     }
 
 pub returns : goal.returns
 returns c =
-    let e = c.in-Some.ensures in
-    pool_takes_back c.args.self.now c.free.new.self.lens c.args.offset c.args.n c.in-Some.k
-    e.0 e.1 e.2 c.free.ensures
+    pool_takes_back c.args.self.now _ c.args.offset c.args.n c.in_ok-k.k
+    (rw c.in_ok-k.ensures.ok_part at c.slot_of.ensures) c.free.ensures

@@ -1,4 +1,4 @@
-//! A number: decimal digits and nothing else.
+//! A number: decimal digits and nothing else. The `FromStr` of `u32` is no such reading, since it takes a plus sign.
 
 ghost use Rattle.std.specs.Prelude.{◌≡◌, ◌^◌, ◌<◌};
 ghost use Rattle.std.specs.Option.{SomeIff};

@@ -1,5 +1,6 @@
 -- A loose handle that is held, used and made loose again at one place.
-use Rattle.std.proofs.Common.{◌≡◌, ℕ, ◌+◌, ◌-◌, ◌<◌, Bool, true, false, not, ◌&&◌, eqb, ltb, leb, List, [], ◌∷◌, length, set, Some, None, Ok, Err, Option, Result, sym, refl, ap, ◌∙◌, subst, ap₂, arith}
+use Rattle.std.proofs.Common.{◌≡◌, ℕ, ◌+◌, ◌-◌, ◌<◌, Bool, true, false, not, ◌&&◌, eqb, ltb, leb, List, [], ◌∷◌, length, set, Some, None}
+use Rattle.std.proofs.Common.{Ok, Err, Option, Result, sym, refl, ap, ◌∙◌, subst, ap₂, arith}
 use Rattle.std.specs.Prelude.{IsOk}
 use Rattle.std.proofs.lemmas.List.{get_or-set_same, set-set}
 use Rattle.std.proofs.lemmas.Bool.{and_parts, not-false, ltb-true}
@@ -11,8 +12,10 @@ use Rattle.cells.specs.declared.row.Shape.TheVariants.{Single}
 use Rattle.disposal.specs.declared.store.Receipt.{Receipt}
 use Rattle.element.specs.declared.reference.Reference.{Reference}
 use Rattle.rc.specs.Admits.{AdmitsRc, AdmitsWeak}
-use Rattle.rc.specs.Calls.{Made, RcFromRaw, Increment, WeakFromRaw, Downgrade, Upgrade, Upgraded, full_upgrade, held_strong, loosened_strong, loosened_weak}
-use Rattle.rc.specs.Checks.{first, wrong_memory, no_rc, no_weak, no_loose_strong, no_loose_weak, past_memory, is_slice, slice_cell, not_sole, full_strong, full_weak}
+use Rattle.rc.specs.Calls.{Made, RcFromRaw, Increment, WeakFromRaw, Downgrade, Upgrade, Upgraded, full_upgrade, held_strong}
+use Rattle.rc.specs.Calls.{loosened_strong, loosened_weak}
+use Rattle.rc.specs.Checks.{first, wrong_memory, no_rc, no_weak, no_loose_strong, no_loose_weak, past_memory, is_slice, slice_cell}
+use Rattle.rc.specs.Checks.{not_sole, full_strong, full_weak}
 use Rattle.rc.specs.Ends.{Decrement, ReleasesWeak, WeakGoes, TryUnwrap, Unwrapped}
 use Rattle.rc.specs.Housed.{housed_at, AllHoused}
 use Rattle.rc.specs.Tickets.{ticket_of, place_of}
@@ -22,8 +25,10 @@ use Rattle.rc.specs.declared.decline.Refused.{Refused}
 use Rattle.rc.specs.declared.handle.Rc.{Rc}
 use Rattle.rc.specs.declared.handle.Ticket.{Ticket}
 use Rattle.rc.specs.declared.handle.Weak.{Weak}
-use Rattle.rc.proofs.Admitted.{hold, loosen, hold_weak, loosen_weak, add_strong, add_weak, held_strong_admitted, held_weak_admitted, weaker_strong, weaker_weak, stronger_strong, stronger_weak}
-use Rattle.rc.proofs.Admitted.{loosened_weak_strong, loosened_strong_weak, cell_within, row_back, row_again, row_here, rc_in_row, weak_in_row, unrefused}
+use Rattle.rc.proofs.Admitted.{hold, loosen, hold_weak, loosen_weak, add_strong, add_weak, held_strong_admitted, held_weak_admitted}
+use Rattle.rc.proofs.Admitted.{weaker_strong, weaker_weak, stronger_strong, stronger_weak}
+use Rattle.rc.proofs.Admitted.{loosened_weak_strong, loosened_strong_weak, cell_within, row_back, row_again, row_here, rc_in_row}
+use Rattle.rc.proofs.Admitted.{weak_in_row, unrefused}
 use Rattle.rc.proofs.Chains.{head_passed, second_passed, past_two}
 use Rattle.rc.proofs.Housed.{row_kept, spread, goes_kept, weak_kept}
 use Rattle.drive.specs.Commands.{Downgrades, Upgrades, Unwraps, one_strong, one_weak}
@@ -44,7 +49,8 @@ module _ {E : Type 0} (w : World) (memory : List E) (p : ℕ) (v : World) (H : A
   incremented_homes (Ok x) d = kept_homes w v p one_strong (λ h. h) d.1 H
   incremented_homes (Err why) d = same_homes w v d.1 H
 
-  pub decremented_homes : (refs : E → List Reference) (list list' : List E) (r : Result Receipt Decline) → Decrement refs w memory list p r v list' → AllHoused v
+  pub decremented_homes : (refs : E → List Reference) (list list' : List E) (r : Result Receipt Decline)
+      → Decrement refs w memory list p r v list' → AllHoused v
   decremented_homes refs list list' (Ok t) d = goes_kept d.1 (kept_homes w (held_strong w p) p hold (λ h. h) refl H)
   decremented_homes refs list list' (Err why) d = same_homes w v d.1.0 H
 
@@ -55,13 +61,15 @@ record Stands {E : Type 0} (w : World) (memory : List E) (p : ℕ) (loose : ℕ)
   pub here : p < length w.rows
   pub some : 0 < loose
 
-stands : {E : Type 0} (w : World) (memory : List E) (p loose : ℕ) → first (wrong_memory w memory ∷ (not (is_cell (at w.rows p) && ltb 0 loose), 4) ∷ []) ≡ 0 → Stands w memory p loose
+stands : {E : Type 0} (w : World) (memory : List E) (p loose : ℕ)
+    → first (wrong_memory w memory ∷ (not (is_cell (at w.rows p) && ltb 0 loose), 4) ∷ []) ≡ 0 → Stands w memory p loose
 stands w memory p loose e =
     let m = (wrong_memory w memory).0 in
     let test = is_cell (at w.rows p) && ltb 0 loose in
     let cell = not-false test (second_passed m (not test) 1 4 (omega arith) (omega arith) e) in
     let parts = and_parts (is_cell (at w.rows p)) (ltb 0 loose) cell in
-    record { fits = head_passed m 1 ((not test, 4) ∷ []) (omega arith) e; cell = cell; here = cell_within w.rows p parts.0; some = ltb-true 0 loose parts.1 }
+    let fits = head_passed m 1 ((not test, 4) ∷ []) (omega arith) e in
+    record { fits = fits; cell = cell; here = cell_within w.rows p parts.0; some = ltb-true 0 loose parts.1 }
 
 -- A strong handle at p, from the world w; u is the world in which it is held.
 module _ {E : Type 0} (w : World) (memory : List E) (p : ℕ) (rc : Rc) (u : World) (told : RcFromRaw w memory p (Ok rc) u) where
@@ -110,12 +118,15 @@ module _ {E : Type 0} (w : World) (memory : List E) (p : ℕ) (rc : Rc) (u : Wor
     rc_stays (Ok weak) d =
         let k = hold (at w.rows p) in
         let s = strong_stands in
-        rc_in_row w a memory p (add_weak k) rc.ticket s.fits s.here (given_is weak d) told.1.0.0 (weaker_strong k (held_strong_admitted (at w.rows p) s.cell))
+        rc_in_row w a memory p (add_weak k) rc.ticket s.fits s.here (given_is weak d) told.1.0.0
+        (weaker_strong k (held_strong_admitted (at w.rows p) s.cell))
     rc_stays (Err why) d = subst (λ (z : World). AdmitsRc z memory rc.ticket) (sym d.1) rc_held
 
-    weak_checks : first (wrong_memory w memory ∷ no_loose_strong w p ∷ full_weak w p ∷ []) ≡ first (wrong_memory u memory ∷ no_rc u rc.ticket ∷ full_weak u rc.ticket.place ∷ [])
+    weak_checks : first (wrong_memory w memory ∷ no_loose_strong w p ∷ full_weak w p ∷ [])
+        ≡ first (wrong_memory u memory ∷ no_rc u rc.ticket ∷ full_weak u rc.ticket.place ∷ [])
     weak_checks =
-        checked_again (full_weak u rc.ticket.place ∷ []) (full_weak w p ∷ []) (ap (λ (k : Counts). first ((eqb k.weak 65535, 9) ∷ [])) held_row)
+        checked_again (full_weak u rc.ticket.place ∷ []) (full_weak w p ∷ [])
+        (ap (λ (k : Counts). first ((eqb k.weak 65535, 9) ∷ [])) held_row)
 
     module _ (b : World) (loosed : b ≡ loosened_strong a rc.ticket.place) where
       pub not_downgraded : (why : Decline) → Downgrade u memory rc.ticket (Err why) a → Downgrades w memory p (Err why) b
@@ -147,7 +158,8 @@ module _ {E : Type 0} (w : World) (memory : List E) (p : ℕ) (rc : Rc) (u : Wor
             (e ∙ ap (λ (z : Option Ticket). loosened_weak b (place_of z)) called_is)
             ∙ ap (λ (n : ℕ). with_row w p (with_loose_strong (one_weak k) n)) same
 
-        pub downgraded : (v : World) → v ≡ loosened_weak b (place_of weak.ticket) → Downgrades w memory p (Ok (record { value = Some p; place = p })) v
+        pub downgraded : (v : World) → v ≡ loosened_weak b (place_of weak.ticket)
+            → Downgrades w memory p (Ok (record { value = Some p; place = p })) v
         downgraded v e = (weak_checks ∙ d.0, ((refl, refl), both_loose v e))
 
   -- The element is asked for, in the world a.
@@ -157,15 +169,22 @@ module _ {E : Type 0} (w : World) (memory : List E) (p : ℕ) (rc : Rc) (u : Wor
     after_handle q k = (leb (length memory) q, 3) ∷ (is_slice k.shape, 5) ∷ (not (eqb k.strong 1), 8) ∷ []
 
     sole_checks : first (wrong_memory w memory ∷ no_loose_strong w p ∷ past_memory memory p ∷ slice_cell w p ∷ not_sole w p ∷ [])
-        ≡ first (wrong_memory u memory ∷ no_rc u rc.ticket ∷ past_memory memory rc.ticket.place ∷ slice_cell u rc.ticket.place ∷ not_sole u rc.ticket.place ∷ [])
+        ≡ first (wrong_memory u memory ∷ no_rc u rc.ticket ∷ past_memory memory rc.ticket.place ∷ slice_cell u rc.ticket.place
+        ∷ not_sole u rc.ticket.place ∷ [])
     unfolding after_handle
     sole_checks =
-        checked_again (after_handle rc.ticket.place (at u.rows rc.ticket.place)) (after_handle p (at w.rows p)) (ap₂ (λ (q : ℕ) (k : Counts). first (after_handle q k)) at_place held_row)
+        checked_again (after_handle rc.ticket.place (at u.rows rc.ticket.place)) (after_handle p (at w.rows p))
+        (ap₂ (λ (q : ℕ) (k : Counts). first (after_handle q k)) at_place held_row)
 
-    pub unwrapped : (number : E → ℕ) (x : E) → TryUnwrap refs u memory rc (Ok x) a → Unwraps refs number w memory p (Ok (record { value = Some (number x); place = p })) a
+    pub unwrapped : (number : E → ℕ) (x : E) → TryUnwrap refs u memory rc (Ok x) a
+        → Unwraps refs number w memory p (Ok (record { value = Some (number x); place = p })) a
     unwrapped number x d = (
       sole_checks ∙ d.0,
-      (x, (refl, refl), subst (λ (z : World). Unwrapped refs z memory p x a) told.1.1 (subst (λ (q : ℕ). Unwrapped refs u memory q x a) at_place d.1)),
+      (
+        x,
+        (refl, refl),
+        subst (λ (z : World). Unwrapped refs z memory p x a) told.1.1 (subst (λ (q : ℕ). Unwrapped refs u memory q x a) at_place d.1),
+      ),
     )
 
     module _ (back : Refused Rc) (d : TryUnwrap refs u memory rc (Err back) a) where
@@ -177,18 +196,21 @@ module _ {E : Type 0} (w : World) (memory : List E) (p : ℕ) (rc : Rc) (u : Wor
       pub handle_back : (v : World) → v ≡ loosened_strong a back.handle.ticket.place → v ≡ w
       handle_back v e = rc_back v (e ∙ ap₂ (λ (z : World) (h : Rc). loosened_strong z h.ticket.place) d.2 d.1)
 
-      pub not_unwrapped : (number : E → ℕ) (v : World) → v ≡ loosened_strong a back.handle.ticket.place → Unwraps refs number w memory p (Err back.why) v
+      pub not_unwrapped : (number : E → ℕ) (v : World) → v ≡ loosened_strong a back.handle.ticket.place
+          → Unwraps refs number w memory p (Err back.why) v
       not_unwrapped number v e = (sole_checks ∙ d.0, handle_back v e)
 
 -- A weak handle at p, from the world w; u is the world in which it is held.
-module _ {E : Type 0} (w : World) (memory : List E) (p : ℕ) (weak : Weak) (u : World) (told : WeakFromRaw w memory (Some p) (Ok weak) u) where
+module _ {E : Type 0} (w : World) (memory : List E) (p : ℕ) (weak : Weak) (u : World)
+    (told : WeakFromRaw w memory (Some p) (Ok weak) u) where
   weak_stands : Stands w memory p (at w.rows p).loose_weak
   weak_stands = stands w memory p (at w.rows p).loose_weak told.0
 
   weak_held : AdmitsWeak u memory weak.ticket
   weak_held =
       let s = weak_stands in
-      weak_in_row w u memory p (hold_weak (at w.rows p)) weak.ticket s.fits s.here told.1.1 told.1.0.0 (held_weak_admitted (at w.rows p) s.cell)
+      weak_in_row w u memory p (hold_weak (at w.rows p)) weak.ticket s.fits s.here told.1.1 told.1.0.0
+      (held_weak_admitted (at w.rows p) s.cell)
 
   pub weak_released : (r : Result Receipt (Refused Weak)) (v : World) → ReleasesWeak u memory weak r v → IsOk r
   weak_released (Ok t) v d = refl
@@ -196,13 +218,15 @@ module _ {E : Type 0} (w : World) (memory : List E) (p : ℕ) (weak : Weak) (u :
 
   pub homes_left : AllHoused w → (r : Result Receipt (Refused Weak)) (v : World) → ReleasesWeak u memory weak r v → AllHoused v
   homes_left H (Ok t) v d =
-      weak_kept u v p t (kept_homes w u p hold_weak (λ h. h) told.1.1 H) (subst (λ (z : Option Ticket). WeakGoes u (place_of z) t v) told.1.0.0 d.1).1
+      weak_kept u v p t (kept_homes w u p hold_weak (λ h. h) told.1.1 H)
+      (subst (λ (z : Option Ticket). WeakGoes u (place_of z) t v) told.1.0.0 d.1).1
   homes_left H (Err back) v d = same_homes u v d.2 (kept_homes w u p hold_weak (λ h. h) told.1.1 H)
 
   weak_row : at u.rows p ≡ hold_weak (at w.rows p)
   weak_row = row_here w u p (hold_weak (at w.rows p)) weak_stands.here told.1.1
 
-  full_checks : first (wrong_memory w memory ∷ no_loose_weak w (Some p) ∷ full_strong w p ∷ []) ≡ first (wrong_memory u memory ∷ no_weak u weak.ticket ∷ full_upgrade u weak.ticket ∷ [])
+  full_checks : first (wrong_memory w memory ∷ no_loose_weak w (Some p) ∷ full_strong w p ∷ [])
+      ≡ first (wrong_memory u memory ∷ no_weak u weak.ticket ∷ full_upgrade u weak.ticket ∷ [])
   full_checks =
       let t = ticket_of w.number p in
       past_two (wrong_memory w memory).0 (no_loose_weak w (Some p)).0 1 4 (full_strong w p ∷ []) (omega arith) (omega arith) told.0
@@ -216,7 +240,8 @@ module _ {E : Type 0} (w : World) (memory : List E) (p : ℕ) (weak : Weak) (u :
   weak_back v e =
       let k = at w.rows p in
       let same : k.loose_weak - 1 + 1 ≡ k.loose_weak = let h = weak_stands.some in omega arith in
-      row_again w u v p (hold_weak k) loosen_weak weak_stands.here told.1.1 (e ∙ ap (λ (z : Option Ticket). loosened_weak u (place_of z)) told.1.0.0)
+      row_again w u v p (hold_weak k) loosen_weak weak_stands.here told.1.1
+      (e ∙ ap (λ (z : Option Ticket). loosened_weak u (place_of z)) told.1.0.0)
       ∙ ap (λ (n : ℕ). with_row w p (with_loose_weak k n)) same
       ∙ row_back w p
 
@@ -284,11 +309,13 @@ module _ {E : Type 0} (w : World) (memory : List E) (p : ℕ) (weak : Weak) (u :
             (e ∙ ap (λ (z : Ticket). loosened_strong b z.place) ticket_is)
             ∙ ap (λ (n : ℕ). with_row w p (with_loose_weak (one_strong k) n)) same
 
-        pub upgraded : (v : World) → v ≡ loosened_strong b rc.ticket.place → Upgrades w memory p (Ok (record { value = Some p; place = p })) v
+        pub upgraded : (v : World) → v ≡ loosened_strong b rc.ticket.place
+            → Upgrades w memory p (Ok (record { value = Some p; place = p })) v
         upgraded v e = (full_checks ∙ d.0, (refl, (alive rc d.1, refl, both_settled v e)))
 
 -- a new cell whose one strong handle is made loose
-pub made_loose : (w u v : World) (rows : List Counts) (q : ℕ) → Made w 1 rows (shared Single 1 1) q u → q < length rows → v ≡ loosened_strong u q → Made w 1 rows (with_loose_strong (shared Single 1 1) 1) q v
+pub made_loose : (w u v : World) (rows : List Counts) (q : ℕ) → Made w 1 rows (shared Single 1 1) q u → q < length rows
+    → v ≡ loosened_strong u q → Made w 1 rows (with_loose_strong (shared Single 1 1) 1) q v
 made_loose w u v rows q made l e =
     let new = shared Single 1 1 in
     record {

@@ -1,5 +1,6 @@
 -- What `make_mut` answers of a held handle, by cases, and that the handle is admitted after it.
-use Rattle.std.proofs.Common.{◌≡◌, ℕ, Bool, true, false, cond, ltb, List, [], ◌∷◌, Some, Ok, Err, MatchBool, Result, sym, refl, ap, ◌∙◌, subst, ap₂}
+use Rattle.std.proofs.Common.{◌≡◌, ℕ, Bool, true, false, cond, ltb, List, [], ◌∷◌, Some, Ok, Err, MatchBool, Result, sym, refl, ap, ◌∙◌}
+use Rattle.std.proofs.Common.{subst, ap₂}
 use Rattle.std.proofs.lemmas.Bool.{and_parts}
 use Rattle.cells.specs.Counts.{is_cell}
 use Rattle.cells.specs.Rows.{at}
@@ -26,19 +27,23 @@ ways a b f n = cond a (f ∷ n ∷ []) (cond b (n ∷ []) [])
 
 abbrev Ways : Bool → Bool → (c d f n : Bool × ℕ) → Result (Unit {0}) Decline → (X Y Z D : Type 0) → Type 0
 Ways a b c d f n r X Y Z D =
-    MatchBool a (Answers (c ∷ d ∷ f ∷ n ∷ []) r (λ _. X) D) (MatchBool b (Answers (c ∷ d ∷ n ∷ []) r (λ _. Y) D) (Answers (c ∷ d ∷ []) r (λ _. Z) D))
+    MatchBool a (Answers (c ∷ d ∷ f ∷ n ∷ []) r (λ _. X) D)
+    (MatchBool b (Answers (c ∷ d ∷ n ∷ []) r (λ _. Y) D) (Answers (c ∷ d ∷ []) r (λ _. Z) D))
 
-ways_declined : (a b : Bool) (c d f n : Bool × ℕ) (why : Decline) (X Y Z D : Type 0) → Ways a b c d f n (Err why) X Y Z D → (first (c ∷ d ∷ ways a b f n) ≡ number_of why) × D
+ways_declined : (a b : Bool) (c d f n : Bool × ℕ) (why : Decline) (X Y Z D : Type 0) → Ways a b c d f n (Err why) X Y Z D
+    → (first (c ∷ d ∷ ways a b f n) ≡ number_of why) × D
 ways_declined true b c d f n why X Y Z D h = h
 ways_declined false true c d f n why X Y Z D h = h
 ways_declined false false c d f n why X Y Z D h = h
 
-ways_accepted : (a b : Bool) (c d f n : Bool × ℕ) (x : Unit {0}) (X Y Z D : Type 0) → Ways a b c d f n (Ok x) X Y Z D → (first (c ∷ d ∷ ways a b f n) ≡ 0) × MatchBool a X (MatchBool b Y Z)
+ways_accepted : (a b : Bool) (c d f n : Bool × ℕ) (x : Unit {0}) (X Y Z D : Type 0) → Ways a b c d f n (Ok x) X Y Z D
+    → (first (c ∷ d ∷ ways a b f n) ≡ 0) × MatchBool a X (MatchBool b Y Z)
 ways_accepted true b c d f n x X Y Z D h = h
 ways_accepted false true c d f n x X Y Z D h = h
 ways_accepted false false c d f n x X Y Z D h = h
 
-each_way : (a b : Bool) (X Y Z X' Y' Z' : Type 0) → (X → X') → (Y → Y') → (Z → Z') → MatchBool a X (MatchBool b Y Z) → MatchBool a X' (MatchBool b Y' Z')
+each_way : (a b : Bool) (X Y Z X' Y' Z' : Type 0) → (X → X') → (Y → Y') → (Z → Z') → MatchBool a X (MatchBool b Y Z)
+    → MatchBool a X' (MatchBool b Y' Z')
 each_way true b X Y Z X' Y' Z' f g h x = f x
 each_way false true X Y Z X' Y' Z' f g h x = g x
 each_way false false X Y Z X' Y' Z' f g h x = h x
@@ -67,14 +72,16 @@ module _ {E : Type 0} (refs : E → List Reference) (w : World) (memory : List E
   declined why h =
       let p = rc.ticket.place in
       let k = at w.rows p in
-      ways_declined (ltb 1 k.strong) (ltb 1 k.weak) (wrong_memory w memory) (no_rc w rc.ticket) (full_copy refs w memory p) (unfit w k.size) why Copy Move Same Same h
+      ways_declined (ltb 1 k.strong) (ltb 1 k.weak) (wrong_memory w memory) (no_rc w rc.ticket) (full_copy refs w memory p)
+      (unfit w k.size) why Copy Move Same Same h
 
   accepted : (x : Unit {0}) → MakeMut refs w memory rc (Ok x) v memory' rc'
       → (first (wrong_memory w memory ∷ no_rc w rc.ticket ∷ own_checks refs w memory rc.ticket.place) ≡ 0) × Done
   accepted x h =
       let p = rc.ticket.place in
       let k = at w.rows p in
-      ways_accepted (ltb 1 k.strong) (ltb 1 k.weak) (wrong_memory w memory) (no_rc w rc.ticket) (full_copy refs w memory p) (unfit w k.size) x Copy Move Same Same h
+      ways_accepted (ltb 1 k.strong) (ltb 1 k.weak) (wrong_memory w memory) (no_rc w rc.ticket) (full_copy refs w memory p)
+      (unfit w k.size) x Copy Move Same Same h
 
   owns : Done → Owns refs w memory rc.ticket.place rc'.ticket.place v memory'
   owns d =
@@ -94,8 +101,10 @@ module _ {E : Type 0} (refs : E → List Reference) (w : World) (memory : List E
   )
 
   from_fresh : MovedTo w rc rc' → Fresh w v memory' rc'.ticket.place → Kept
-  from_fresh to f =
-      (rc_admitted v memory' rc'.ticket f.fits (ap (λ (t : Ticket). t.census) to.0 ∙ sym f.number) f.strong, gathered v.rows v.meaning.out f.homes)
+  from_fresh to f = (
+    rc_admitted v memory' rc'.ticket f.fits (ap (λ (t : Ticket). t.census) to.0 ∙ sym f.number) f.strong,
+    gathered v.rows v.meaning.out f.homes,
+  )
 
   kept : Ready w → AllHoused w → AdmitsRc w memory rc.ticket → Done → Kept
   kept can H adm d =
@@ -110,12 +119,14 @@ module _ {E : Type 0} (refs : E → List Reference) (w : World) (memory : List E
       (same_kept H adm)
       d
 
-  pub rc_kept : Ready w → AllHoused w → AdmitsRc w memory rc.ticket → (r : Result (Unit {0}) Decline) → MakeMut refs w memory rc r v memory' rc' → Kept
+  pub rc_kept : Ready w → AllHoused w → AdmitsRc w memory rc.ticket → (r : Result (Unit {0}) Decline)
+      → MakeMut refs w memory rc r v memory' rc' → Kept
   rc_kept can H adm (Ok x) h = kept can H adm (accepted x h).1
   rc_kept can H adm (Err why) h = same_kept H adm (declined why h).1
 
 -- A strong handle at p is held in the world u, gets a cell of its own in the world a, and is loose again in the world b.
-module _ {E : Type 0} (refs : E → List Reference) (w : World) (memory : List E) (p : ℕ) (rc : Rc) (u : World) (told : RcFromRaw w memory p (Ok rc) u)
+module _ {E : Type 0} (refs : E → List Reference) (w : World) (memory : List E) (p : ℕ) (rc : Rc) (u : World)
+    (told : RcFromRaw w memory p (Ok rc) u)
     (a : World) (memory' : List E) (rc' : Rc) (b : World) (loosed : b ≡ loosened_strong a rc'.ticket.place) where
   own_checks_again : first (wrong_memory w memory ∷ no_loose_strong w p ∷ own_checks refs (held_strong w p) memory p)
       ≡ first (wrong_memory u memory ∷ no_rc u rc.ticket ∷ own_checks refs u memory rc.ticket.place)
@@ -134,5 +145,6 @@ module _ {E : Type 0} (refs : E → List Reference) (w : World) (memory : List E
   owned x h =
       let q = rc'.ticket.place in
       let done = accepted refs u memory rc a memory' rc' x h in
-      let here = subst (λ (n : ℕ). Owns refs u memory n q a memory') (at_place w memory p rc u told) (owns refs u memory rc a memory' rc' done.1) in
+      let here = subst (λ (n : ℕ). Owns refs u memory n q a memory') (at_place w memory p rc u told)
+      (owns refs u memory rc a memory' rc' done.1) in
       (own_checks_again ∙ done.0, ((refl, refl), (a, subst (λ (z : World). Owns refs z memory p q a memory') told.1.1 here, loosed)))

@@ -21,11 +21,9 @@ pub fn number_of_bytes(bytes: &[u8]) -> Option<u32>
     if bytes.is_empty() {
         return None;
     }
-    let mut value = 0;
-    for byte in bytes {
-        value = with_digit(value, *byte)?;
-    }
-    Some(value)
+    bytes
+        .iter()
+        .try_fold(0, |value, byte| with_digit(value, *byte))
 }
 
 /// The value with one digit more, where the byte is a digit and the number still fits.

@@ -6,4 +6,7 @@ pub invariant_of-self : goal.invariant_of-self
 invariant_of-self g c =
     let m = world g.A.Allocator.meaning in
     let call = c.increment_strong_count in
-    record { homes = incremented_homes (m c.args.self.now.census) c.args.memory.now c.args.place (m call.new.self) c.args.self.now.homes call.result call.ensures }
+    record {
+      homes = incremented_homes (m c.args.self.now.census) c.args.memory.now c.args.place (m call.new.self) c.args.self.now.homes
+          call.result call.ensures;
+    }

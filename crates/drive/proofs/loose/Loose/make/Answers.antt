@@ -26,8 +26,12 @@ invariant_of-self-2 g c =
     let q = rc.ticket.place in
     let can = ready m c.args.self.now.census (g.met.A.Allocator.small c.args.self.now.census.store.alloc).1 c.args.self.now.homes in
     let u = world m c.new.new.self in
-    let new = new_fresh g.E.Element.refs (world m c.args.self.now.census) u c.args.memory.now c.new.new.memory c.args.x rc can c.in_ok-rc.ensures in
-    record { homes = row_kept u (world m c.settle.new.census) q (loosen (at u.rows q)) (gathered u.rows u.meaning.out new.homes) (new.homes q) c.settle.ensures.after }
+    let new = new_fresh g.E.Element.refs (world m c.args.self.now.census) u c.args.memory.now c.new.new.memory c.args.x rc can
+    c.in_ok-rc.ensures in
+    record {
+      homes = row_kept u (world m c.settle.new.census) q (loosen (at u.rows q)) (gathered u.rows u.meaning.out new.homes)
+          (new.homes q) c.settle.ensures.after;
+    }
 
 pub returns : goal.returns
 returns g c =
@@ -37,5 +41,6 @@ returns g c =
     let told = c.in_ok-rc.ensures in
     let can = ready m c.args.self.now.census (g.met.A.Allocator.small c.args.self.now.census.store.alloc).1 c.args.self.now.homes in
     let here = fresh_within can told.1.1 (omega arith) (length_each_held w.rows (refs c.args.x)) in
-    let made = made_loose w (world m c.new.new.self) (world m c.settle.new.census) (each held w.rows (refs c.args.x)) c.in_ok-rc.rc.ticket.place told.1.1 here c.settle.ensures.after in
+    let made = made_loose w (world m c.new.new.self) (world m c.settle.new.census) (each held w.rows (refs c.args.x))
+    c.in_ok-rc.rc.ticket.place told.1.1 here c.settle.ensures.after in
     rw (c.at.ensures, c.settle.ensures.place) (told.0, ((refl, refl), made, told.1.2))

@@ -9,8 +9,12 @@ pub invariant_of-self-in-Ok-1 : goal.invariant_of-self-in-Ok-1
 invariant_of-self-in-Ok-1 g c =
     let m = world g.A.Allocator.meaning in
     let u = m c.rc_from_raw.new.self in
-    let homes = held_homes (m c.args.self.now.census) c.args.memory.now c.args.place c.in_ok-rc.rc u c.in_ok-rc.ensures c.args.self.now.homes in
-    record { homes = unwrapped_kept references_of u (m c.try_unwrap.new.self) c.args.memory.now c.in_ok-rc.rc.ticket.place c.in-Ok.note homes c.in-Ok.ensures.1 }
+    let homes = held_homes (m c.args.self.now.census) c.args.memory.now c.args.place c.in_ok-rc.rc u c.in_ok-rc.ensures
+    c.args.self.now.homes in
+    record {
+      homes = unwrapped_kept references_of u (m c.try_unwrap.new.self) c.args.memory.now c.in_ok-rc.rc.ticket.place c.in-Ok.note
+          homes c.in-Ok.ensures.1;
+    }
 
 pub settle-requires : goal.settle-requires
 settle-requires g c =
@@ -37,4 +41,5 @@ pub returns-in-Err : goal.returns-in-Err
 returns-in-Err g c =
     let m = world g.A.Allocator.meaning in
     not_unwrapped (m c.args.self.now.census) c.args.memory.now c.args.place c.in_ok-rc.rc (m c.rc_from_raw.new.self) c.in_ok-rc.ensures
-    references_of (m c.try_unwrap.new.self) c.in-Err.refused c.in-Err.ensures (λ (n : Note). n.number) (m c.settle.new.census) c.settle.ensures.after
+    references_of (m c.try_unwrap.new.self) c.in-Err.refused c.in-Err.ensures (λ (n : Note). n.number) (m c.settle.new.census)
+    c.settle.ensures.after

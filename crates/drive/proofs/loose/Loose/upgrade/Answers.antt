@@ -7,7 +7,8 @@ use Rattle.drive.proofs.loose.Loose.upgrade.Goals as goal
 pub settle_weak-requires : goal.settle_weak-requires
 settle_weak-requires g c =
     let m = world g.A.Allocator.meaning in
-    weak_still (m c.args.self.now.census) c.args.memory.now c.args.place c.in_ok-weak.weak (m c.weak_from_raw.new.self) c.in_ok-weak.ensures
+    weak_still (m c.args.self.now.census) c.args.memory.now c.args.place c.in_ok-weak.weak (m c.weak_from_raw.new.self)
+    c.in_ok-weak.ensures
     (m c.upgrade-given.new.self) c.upgrade-given.result c.upgrade-given.ensures
 
 pub invariant_of-self-in-Break-branch-2 : goal.invariant_of-self-in-Break-branch-2
@@ -23,7 +24,8 @@ pub returns-in_err-rc : goal.returns-in_err-rc
 returns-in_err-rc g c =
     let m = world g.A.Allocator.meaning in
     let r = err_from_is_err_and c.from_residual-in_err-rc.result c.from_residual-in_err-rc.ensures.1 in
-    rw (r.1, r.2) (not_upgraded (m c.args.self.now.census) c.args.memory.now c.args.place c.in_ok-weak.weak (m c.weak_from_raw.new.self) c.in_ok-weak.ensures
+    rw (r.1, r.2) (not_upgraded (m c.args.self.now.census) c.args.memory.now c.args.place c.in_ok-weak.weak (m c.weak_from_raw.new.self)
+    c.in_ok-weak.ensures
     (m c.upgrade-given.new.self) (m c.settle_weak.new.census) c.settle_weak.ensures c.in_err-rc.field-0.0 c.in_err-rc.ensures)
 
 pub invariant_of-self-in_default : goal.invariant_of-self-in_default
@@ -38,7 +40,8 @@ invariant_of-self-in_default g c =
 pub returns-in_default : goal.returns-in_default
 returns-in_default g c =
     let m = world g.A.Allocator.meaning in
-    none_upgraded (m c.args.self.now.census) c.args.memory.now c.args.place c.in_ok-weak.weak (m c.weak_from_raw.new.self) c.in_ok-weak.ensures
+    none_upgraded (m c.args.self.now.census) c.args.memory.now c.args.place c.in_ok-weak.weak (m c.weak_from_raw.new.self)
+    c.in_ok-weak.ensures
     (m c.upgrade-given.new.self) (m c.settle_weak.new.census) c.settle_weak.ensures (rw c.in_default.is at c.in_ok-rc.ensures)
 
 pub settle-requires : goal.settle-requires
@@ -53,12 +56,14 @@ invariant_of-self-2 g c =
     let w = m c.args.self.now.census in
     let v = m c.settle.new.census in
     let end = both_settled w c.args.memory.now c.args.place c.in_ok-weak.weak (m c.weak_from_raw.new.self) c.in_ok-weak.ensures
-    (m c.upgrade-given.new.self) (m c.settle_weak.new.census) c.settle_weak.ensures c.in-Some.rc (rw c.in-Some.is at c.in_ok-rc.ensures) v c.settle.ensures.after in
+    (m c.upgrade-given.new.self) (m c.settle_weak.new.census) c.settle_weak.ensures c.in-Some.rc (rw c.in-Some.is at c.in_ok-rc.ensures) v
+    c.settle.ensures.after in
     record { homes = kept_homes w v c.args.place one_strong (λ h. h) end c.args.self.now.homes }
 
 pub returns : goal.returns
 returns g c =
     let m = world g.A.Allocator.meaning in
-    rw c.at.ensures (upgraded (m c.args.self.now.census) c.args.memory.now c.args.place c.in_ok-weak.weak (m c.weak_from_raw.new.self) c.in_ok-weak.ensures
+    rw c.at.ensures (upgraded (m c.args.self.now.census) c.args.memory.now c.args.place c.in_ok-weak.weak (m c.weak_from_raw.new.self)
+    c.in_ok-weak.ensures
     (m c.upgrade-given.new.self) (m c.settle_weak.new.census) c.settle_weak.ensures c.in-Some.rc (rw c.in-Some.is at c.in_ok-rc.ensures)
     (m c.settle.new.census) c.settle.ensures.after)

@@ -1,5 +1,5 @@
 -- The letters of the commands.
-use Rattle.std.specs.Prelude.{◌≡◌, ℕ, cond, List, [], ◌∷◌, Some, None, codes, Option, Result, MatchResult, ◌==◌, slice_index}
+use Rattle.std.specs.Prelude.{◌≡◌, ℕ, cond, List, [], ◌∷◌, ◌++◌, Some, None, codes, encode_utf8, Option, Result, MatchResult, ◌==◌, slice_index}
 use Prim.Native.String.{String}
 use Rattle.script.specs.declared.commands.Command.{Command}
 use Rattle.script.specs.declared.commands.Command.TheVariants.{New, Increment, Downgrade, MakeMut}
@@ -37,6 +37,10 @@ command_of letter = named letter commands
 -- the command that this letter names, or the letter back where it names none
 abbrev pub Names : ℕ → Result Command UnknownLetter → Type 0
 Names letter r = MatchResult r (λ c. command_of letter ≡ Some c) (λ e. (command_of letter ≡ None) × (e.0 ≡ letter))
+
+-- how a letter that names no command is printed
+abbrev pub unknown_text : UnknownLetter → List ℕ
+unknown_text e = codes "no command has the letter " ++ encode_utf8 e.0
 
 -- the letter of a command names it, and no other letter does
 pub record LettersUndo : Type 0 where

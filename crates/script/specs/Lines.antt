@@ -1,10 +1,10 @@
 -- The lines that bytes spell.
-use Rattle.std.specs.Prelude.{◌≡◌, ℕ, cond, List, drop, Some, None, Option, Result, MatchResult, ◌==◌, slice_index}
+use Rattle.std.specs.Prelude.{◌≡◌, ℕ, cond, List, drop, Some, None, codes, Option, Result, MatchResult, ◌==◌, slice_index}
 use Rattle.script.specs.declared.commands.Command.{Command}
 use Rattle.script.specs.declared.lines.Line.{Line}
 use Rattle.script.specs.declared.lines.LineError.{LineError}
 use Rattle.script.specs.declared.lines.LineError.TheVariants.{Malformed, Letter, Number}
-use Rattle.script.specs.Commands.{command_of}
+use Rattle.script.specs.Commands.{command_of, unknown_text}
 use Rattle.script.specs.Numbers.{number_of}
 
 -- the line of a command and a number, where both are there
@@ -28,3 +28,9 @@ fault_of bs = cond (slice_index bs 1 == 32) (fault_with (slice_index bs 0) (comm
 -- the line that the bytes spell, or what is wrong with them where they spell none
 abbrev pub Reads : List ℕ → Result Line LineError → Type 0
 Reads bs r = MatchResult r (λ l. line_of bs ≡ Some l) (λ e. (line_of bs ≡ None) × (e ≡ fault_of bs))
+
+-- how it is printed
+abbrev pub fault_text : LineError → List ℕ
+fault_text Malformed = codes "no letter and space at the start"
+fault_text (Letter unknown) = unknown_text unknown
+fault_text Number = codes "no number below 2^32 after them"

@@ -1,7 +1,7 @@
 //! The commands of a script, each with its letter.
 
 ghost use Rattle.std.specs.Prelude.{◌≡◌, Some, encode_utf8};
-ghost use Rattle.script.specs.Commands.{letter_of, Names, LettersUndo};
+ghost use Rattle.script.specs.Commands.{letter_of, Names, LettersUndo, unknown_text};
 
 use std::error::Error;
 use std::fmt;
@@ -75,6 +75,8 @@ impl fmt::Display for Command {
 }
 
 impl fmt::Display for UnknownLetter {
+    ghost output = { λ unknown. Some (unknown_text unknown) };
+
     fn fmt<W: fmt::Write>(&self, f: &mut fmt::Formatter<W>) -> fmt::Result {
         write!(f, "no command has the letter {}", self.0)
     }

@@ -1,8 +1,8 @@
 //! A line: a letter, one space and a number.
 
-ghost use Rattle.std.specs.Prelude.{◌≡◌};
+ghost use Rattle.std.specs.Prelude.{◌≡◌, Some};
 ghost use Rattle.script.specs.declared.lines.LineError.TheVariants.{Letter};
-ghost use Rattle.script.specs.Lines.{Reads};
+ghost use Rattle.script.specs.Lines.{Reads, fault_text};
 
 use crate::commands::{Command, UnknownLetter};
 use crate::numbers::number_of_bytes;
@@ -29,10 +29,10 @@ pub enum LineError {
 }
 
 impl From<UnknownLetter> for LineError {
-    ghost from_gives = { λ unknown e. e ≡ Letter unknown };
+    ghost from_gives = { λ letter e. e ≡ Letter letter };
 
-    fn from(unknown: UnknownLetter) -> LineError {
-        LineError::Letter(unknown)
+    fn from(letter: UnknownLetter) -> LineError {
+        LineError::Letter(letter)
     }
 }
 
@@ -53,11 +53,13 @@ impl FromStr for Line {
 }
 
 impl fmt::Display for LineError {
+    ghost output = { λ e. Some (fault_text e) };
+
     fn fmt<W: fmt::Write>(&self, f: &mut fmt::Formatter<W>) -> fmt::Result {
         match self {
-            LineError::Malformed => write!(f, "no letter and a space"),
-            LineError::Letter(letter) => write!(f, "{letter}"),
-            LineError::Number => write!(f, "no number below 2^32"),
+            LineError::Malformed => write!(f, "no letter and space at the start"),
+            LineError::Letter(unknown) => write!(f, "{unknown}"),
+            LineError::Number => write!(f, "no number below 2^32 after them"),
         }
     }
 }

@@ -15,13 +15,13 @@ use rc::{Census, Decline, Refused};
 /// A census whose handles are all loose between commands, so that each cell has its block.
 pub(crate) struct Loose<A: Allocator> {
     pub(crate) census: Census<A>,
-    ghost homes: { AllHoused (world A.Allocator.meaning census) },
+    ghost homes: { AllHoused (world A.meaning census) },
 }
 
 impl<A: Allocator> Loose<A> {
     /// A census without cells.
     pub(crate) fn open(number: u32, alloc: A) -> Loose<A>
-        ensures { world A.Allocator.meaning result.census ≡ opened number (A.Allocator.meaning alloc) }
+        ensures { world A.meaning result.census ≡ opened number (A.meaning alloc) }
     {
         Loose {
             census: Census::open(number, alloc),
@@ -30,7 +30,8 @@ impl<A: Allocator> Loose<A> {
 
     /// A new cell with `x` in it.
     pub(crate) fn make<E: Element>(&mut self, memory: &mut [E], x: E) -> Result<Answer, Decline>
-        ensures { Makes E.Element.refs (world A.Allocator.meaning self.old.census) memory.old x result (world A.Allocator.meaning self.new.census) memory.new }
+        ensures { Makes E.refs (world A.meaning self.old.census) memory.old x result
+            (world A.meaning self.new.census) memory.new }
     {
         let rc = self.census.new(memory, x)?;
         Ok(Answer::at(settle(&mut self.census, memory, rc)))
@@ -42,7 +43,8 @@ impl<A: Allocator> Loose<A> {
         memory: &[E],
         place: u32,
     ) -> Result<Answer, Decline>
-        ensures { Increments (world A.Allocator.meaning self.old.census) memory.now place result (world A.Allocator.meaning self.new.census) }
+        ensures { Increments (world A.meaning self.old.census) memory.now place result
+            (world A.meaning self.new.census) }
     {
         self.census.increment_strong_count(memory, place)?;
         Ok(Answer::at(place))
@@ -54,7 +56,8 @@ impl<A: Allocator> Loose<A> {
         memory: &[E],
         place: u32,
     ) -> Result<Answer, Decline>
-        ensures { Downgrades (world A.Allocator.meaning self.old.census) memory.now place result (world A.Allocator.meaning self.new.census) }
+        ensures { Downgrades (world A.meaning self.old.census) memory.now place result
+            (world A.meaning self.new.census) }
     {
         let rc = self.census.rc_from_raw(memory, place)?;
         let given = self.census.downgrade(memory, &rc);
@@ -70,7 +73,8 @@ impl<A: Allocator> Loose<A> {
         memory: &mut [E],
         place: u32,
     ) -> Result<Answer, Decline>
-        ensures { MakesOwn E.Element.refs (world A.Allocator.meaning self.old.census) memory.old place result (world A.Allocator.meaning self.new.census) memory.new }
+        ensures { MakesOwn E.refs (world A.meaning self.old.census) memory.old place result
+            (world A.meaning self.new.census) memory.new }
     {
         let mut rc = self.census.rc_from_raw(memory, place)?;
         let made = self.census.make_mut(memory, &mut rc);
@@ -86,7 +90,8 @@ impl<A: Allocator> Loose<A> {
         list: &mut [E],
         place: u32,
     ) -> Result<Answer, Decline>
-        ensures { Decrements E.Element.refs (world A.Allocator.meaning self.old.census) memory.now list.old place result (world A.Allocator.meaning self.new.census) list.new }
+        ensures { Decrements E.refs (world A.meaning self.old.census) memory.now list.old place result
+            (world A.meaning self.new.census) list.new }
     {
         let receipt = self.census.decrement_strong_count(memory, list, place)?;
         Ok(Answer {
@@ -101,7 +106,8 @@ impl<A: Allocator> Loose<A> {
         memory: &[E],
         place: u32,
     ) -> Result<Answer, Decline>
-        ensures { Upgrades (world A.Allocator.meaning self.old.census) memory.now place result (world A.Allocator.meaning self.new.census) }
+        ensures { Upgrades (world A.meaning self.old.census) memory.now place result
+            (world A.meaning self.new.census) }
     {
         let weak = self.census.weak_from_raw(memory, Some(place))?;
         let given = self.census.upgrade(memory, &weak);
@@ -115,7 +121,9 @@ impl<A: Allocator> Loose<A> {
 
     /// The note of a cell that no other strong handle has: its number.
     pub(crate) fn try_unwrap(&mut self, memory: &[Note], place: u32) -> Result<Answer, Decline>
-        ensures { Unwraps (λ (n : Note). n.references) (λ (n : Note). n.number) (world A.Allocator.meaning self.old.census) memory.now place result (world A.Allocator.meaning self.new.census) }
+        ensures { Unwraps (λ (n : Note). n.references) (λ (n : Note). n.number)
+            (world A.meaning self.old.census) memory.now place result
+            (world A.meaning self.new.census) }
     {
         let rc = self.census.rc_from_raw(memory, place)?;
         match self.census.try_unwrap(memory, rc) {
@@ -138,7 +146,8 @@ impl<A: Allocator> Loose<A> {
         memory: &[E],
         place: u32,
     ) -> Result<Answer, Decline>
-        ensures { Releases (world A.Allocator.meaning self.old.census) memory.now place result (world A.Allocator.meaning self.new.census) }
+        ensures { Releases (world A.meaning self.old.census) memory.now place result
+            (world A.meaning self.new.census) }
     {
         let weak = self.census.weak_from_raw(memory, Some(place))?;
         let receipt = self.census.release_weak(memory, weak).unwrap();

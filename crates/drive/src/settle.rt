@@ -12,9 +12,9 @@ use rc::{Census, Rc, Weak};
 
 /// Makes the strong handle loose, and answers its place.
 pub(crate) fn settle<A: Allocator, E: Element>(census: &mut Census<A>, memory: &[E], rc: Rc) -> u32
-    requires { AdmitsRc (world A.Allocator.meaning census.old) memory.now rc.ticket }
+    requires { AdmitsRc (world A.meaning census.old) memory.now rc.ticket }
     ensures place { result ≡ rc.ticket.place }
-    ensures after { world A.Allocator.meaning census.new ≡ loosened_strong (world A.Allocator.meaning census.old) rc.ticket.place }
+    ensures after { world A.meaning census.new ≡ loosened_strong (world A.meaning census.old) rc.ticket.place }
 {
     census.rc_into_raw(memory, rc).unwrap()
 }
@@ -26,8 +26,8 @@ pub(crate) fn settle_weak<A: Allocator, E: Element>(
     memory: &[E],
     weak: Weak,
 )
-    requires { AdmitsWeak (world A.Allocator.meaning census.old) memory.now weak.ticket }
-    ensures { world A.Allocator.meaning census.new ≡ loosened_weak (world A.Allocator.meaning census.old) (place_of weak.ticket) }
+    requires { AdmitsWeak (world A.meaning census.old) memory.now weak.ticket }
+    ensures { world A.meaning census.new ≡ loosened_weak (world A.meaning census.old) (place_of weak.ticket) }
 {
     census.weak_into_raw(memory, weak).unwrap();
 }

@@ -9,7 +9,7 @@ use Rattle.rc.specs.declared.decline.Decline.{Decline}
 use Rattle.script.specs.declared.commands.Command.{Command}
 use Rattle.script.specs.declared.commands.Command.TheVariants.{New, Increment, Downgrade, MakeMut}
 use Rattle.script.specs.declared.commands.Command.TheVariants.{Decrement, Upgrade, TryUnwrap, ReleaseWeak}
-use Rattle.script.specs.declared.commands.Line.{Line}
+use Rattle.script.specs.declared.lines.Line.{Line}
 use Rattle.drive.specs.Commands.{Makes, Increments, Downgrades, MakesOwn, Decrements, Upgrades, Unwraps, Releases}
 use Rattle.drive.specs.Meanings.{meaning_of, references_of}
 use Rattle.drive.specs.declared.answer.Answer.{Answer}
@@ -25,7 +25,7 @@ pub record State : Type 0 where
 
 -- the state of a drive
 abbrev pub state_of : Drive → State
-state_of d = record { world = world meaning_of d.census; memory = d.memory; list = d.list }
+state_of d = record { world = world meaning_of d.loose.census; memory = d.memory; list = d.list }
 
 -- a note that refers to nothing
 abbrev pub Plain : ℕ → Note → Type 0

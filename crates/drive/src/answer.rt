@@ -1,6 +1,6 @@
 //! What a command answers.
 
-ghost use Rattle.std.specs.Prelude.{◌≡◌, Some, None};
+ghost use Rattle.std.specs.Prelude.{◌≡◌, Some};
 
 /// A number, or none where no handle was given, and the place whose counts are shown beside it.
 #[derive(Clone, Copy)]
@@ -10,22 +10,13 @@ pub(crate) struct Answer {
 }
 
 impl Answer {
-    /// The number `value`, with the counts of `place`.
-    pub(crate) fn of(value: usize, place: u32) -> Answer
-        ensures value { result.value ≡ Some value }
-        ensures place { result.place ≡ place }
+    /// The place itself.
+    pub(crate) fn at(place: u32) -> Answer
+        ensures { result ≡ record { value = Some place; place = place } }
     {
         Answer {
-            value: Some(value),
+            value: Some(place as usize),
             place,
         }
-    }
-
-    /// No number, with the counts of `place`.
-    pub(crate) fn none(place: u32) -> Answer
-        ensures value { result.value ≡ None }
-        ensures place { result.place ≡ place }
-    {
-        Answer { value: None, place }
     }
 }

@@ -3,7 +3,7 @@
 use rc::Decline;
 use script::Command;
 
-/// What a line comes to.
+/// What a line comes to: no `Result`, since each of the three is printed.
 #[derive(Clone, Copy)]
 pub enum Reply {
     /// The command ran: its answer, and the counts stored at its place.

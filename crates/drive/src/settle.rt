@@ -12,27 +12,22 @@ use rc::{Census, Rc, Weak};
 
 /// Makes the strong handle loose, and answers its place.
 pub(crate) fn settle<A: Allocator, E: Element>(census: &mut Census<A>, memory: &[E], rc: Rc) -> u32
-    requires { AdmitsRc (world A.Allocator.meaning census.old) memory.now rc.ticket }
+    requires { AdmitsRc (world A.meaning census.old) memory.now rc.ticket }
     ensures place { result ≡ rc.ticket.place }
-    ensures after { world A.Allocator.meaning census.new ≡ loosened_strong (world A.Allocator.meaning census.old) rc.ticket.place }
+    ensures after { world A.meaning census.new ≡ loosened_strong (world A.meaning census.old) rc.ticket.place }
 {
-    match census.rc_into_raw(memory, rc) {
-        Ok(place) => place,
-        Err(_) => unreachable(),
-    }
+    census.rc_into_raw(memory, rc).unwrap()
 }
 
-/// Makes the weak handle loose.
+/// Makes the weak handle loose. One function with `settle` it cannot be: the calls of the census answer
+/// different types.
 pub(crate) fn settle_weak<A: Allocator, E: Element>(
     census: &mut Census<A>,
     memory: &[E],
     weak: Weak,
 )
-    requires { AdmitsWeak (world A.Allocator.meaning census.old) memory.now weak.ticket }
-    ensures { world A.Allocator.meaning census.new ≡ loosened_weak (world A.Allocator.meaning census.old) (place_of weak.ticket) }
+    requires { AdmitsWeak (world A.meaning census.old) memory.now weak.ticket }
+    ensures { world A.meaning census.new ≡ loosened_weak (world A.meaning census.old) (place_of weak.ticket) }
 {
-    match census.weak_into_raw(memory, weak) {
-        Ok(_) => {}
-        Err(_) => unreachable(),
-    }
+    census.weak_into_raw(memory, weak).unwrap();
 }

@@ -34,9 +34,8 @@ impl Display for Reply {
                 strong,
                 weak,
             } => {
-                let letter = command.letter();
                 let answer = Shown(answer);
-                write!(f, "{letter} {answer} {strong} {weak}")
+                write!(f, "{command} {answer} {strong} {weak}")
             }
             Reply::Declined(why) => {
                 let number = why.number();

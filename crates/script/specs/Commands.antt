@@ -1,9 +1,10 @@
 -- The letters of the commands.
-use Rattle.std.specs.Prelude.{◌≡◌, ℕ, cond, List, [], ◌∷◌, Some, None, codes, Option, ◌==◌, slice_index}
+use Rattle.std.specs.Prelude.{◌≡◌, ℕ, cond, List, [], ◌∷◌, ◌++◌, Some, None, codes, encode_utf8, Option, Result, MatchResult, ◌==◌, slice_index}
 use Prim.Native.String.{String}
 use Rattle.script.specs.declared.commands.Command.{Command}
 use Rattle.script.specs.declared.commands.Command.TheVariants.{New, Increment, Downgrade, MakeMut}
 use Rattle.script.specs.declared.commands.Command.TheVariants.{Decrement, Upgrade, TryUnwrap, ReleaseWeak}
+use Rattle.script.specs.declared.commands.UnknownLetter.{UnknownLetter}
 
 -- the code of the one character of a text
 abbrev code_of : String → ℕ
@@ -32,6 +33,14 @@ commands = New ∷ Increment ∷ Downgrade ∷ MakeMut ∷ Decrement ∷ Upgrade
 -- the command that this letter names
 abbrev pub command_of : ℕ → Option Command
 command_of letter = named letter commands
+
+-- the command that this letter names, or the letter back where it names none
+abbrev pub Names : ℕ → Result Command UnknownLetter → Type 0
+Names letter r = MatchResult r (λ c. command_of letter ≡ Some c) (λ e. (command_of letter ≡ None) × (e.0 ≡ letter))
+
+-- how a letter that names no command is printed
+abbrev pub unknown_text : UnknownLetter → List ℕ
+unknown_text e = codes "no command has the letter " ++ encode_utf8 e.0
 
 -- the letter of a command names it, and no other letter does
 pub record LettersUndo : Type 0 where

@@ -1,7 +1,10 @@
 //! The commands of a script, each with its letter.
 
-ghost use Rattle.std.specs.Prelude.{◌≡◌};
-ghost use Rattle.script.specs.Commands.{letter_of, LettersUndo};
+ghost use Rattle.std.specs.Prelude.{◌≡◌, Some, encode_utf8};
+ghost use Rattle.script.specs.Commands.{letter_of, Names, LettersUndo, unknown_text};
+
+use std::error::Error;
+use std::fmt;
 
 /// What a line asks for.
 #[derive(Clone, Copy, PartialEq, Eq, Debug)]
@@ -16,20 +19,19 @@ pub enum Command {
     ReleaseWeak,
 }
 
-/// A command and the number that it is given.
+/// A letter that names no command.
 #[derive(Clone, Copy, PartialEq, Eq, Debug)]
-pub struct Line {
-    pub command: Command,
-    pub number: u32,
-}
+pub struct UnknownLetter(pub char);
 
-impl Command {
-    /// The letter that names this command.
-    pub fn letter(self) -> char
-        ensures letter { result ≡ letter_of self }
+/// The letter that names the command.
+impl From<Command> for char {
+    ghost from_gives = { λ command letter. letter ≡ letter_of command };
+
+    fn from(command: Command) -> char
+        ensures letter { result ≡ letter_of command }
         ensures undone { LettersUndo }
     {
-        match self {
+        match command {
             Command::New => 'n',
             Command::Increment => 'c',
             Command::Downgrade => 'w',
@@ -41,3 +43,43 @@ impl Command {
         }
     }
 }
+
+/// The command that the letter names, if it names one.
+impl TryFrom<char> for Command {
+    type Error = UnknownLetter;
+
+    ghost try_from_gives = { Names };
+
+    fn try_from(letter: char) -> Result<Self, UnknownLetter> {
+        match letter {
+            'n' => Ok(Command::New),
+            'c' => Ok(Command::Increment),
+            'w' => Ok(Command::Downgrade),
+            'm' => Ok(Command::MakeMut),
+            'd' => Ok(Command::Decrement),
+            'u' => Ok(Command::Upgrade),
+            't' => Ok(Command::TryUnwrap),
+            'r' => Ok(Command::ReleaseWeak),
+            _ => Err(UnknownLetter(letter)),
+        }
+    }
+}
+
+/// A command is printed as its letter.
+impl fmt::Display for Command {
+    ghost output = { λ command. Some (encode_utf8 (letter_of command)) };
+
+    fn fmt<W: fmt::Write>(&self, f: &mut fmt::Formatter<W>) -> fmt::Result {
+        f.write_char(char::from(*self))
+    }
+}
+
+impl fmt::Display for UnknownLetter {
+    ghost output = { λ unknown. Some (unknown_text unknown) };
+
+    fn fmt<W: fmt::Write>(&self, f: &mut fmt::Formatter<W>) -> fmt::Result {
+        write!(f, "no command has the letter {}", self.0)
+    }
+}
+
+impl Error for UnknownLetter {}

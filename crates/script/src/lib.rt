@@ -8,6 +8,6 @@ mod numbers;
 #[cfg(test)]
 mod tests;
 
-pub use commands::{Command, Line};
-pub use lines::{command, line};
+pub use commands::{Command, UnknownLetter};
+pub use lines::{Line, LineError};
 pub use numbers::{number, number_of_bytes};

@@ -1,4 +1,4 @@
-//! A number: decimal digits and nothing else.
+//! A number: decimal digits and nothing else. The `FromStr` of `u32` is no such reading, since it takes a plus sign.
 
 ghost use Rattle.std.specs.Prelude.{◌≡◌, ◌^◌, ◌<◌};
 ghost use Rattle.std.specs.Option.{SomeIff};
@@ -21,11 +21,9 @@ pub fn number_of_bytes(bytes: &[u8]) -> Option<u32>
     if bytes.is_empty() {
         return None;
     }
-    let mut value = 0;
-    for byte in bytes {
-        value = with_digit(value, *byte)?;
-    }
-    Some(value)
+    bytes
+        .iter()
+        .try_fold(0, |value, byte| with_digit(value, *byte))
 }
 
 /// The value with one digit more, where the byte is a digit and the number still fits.

@@ -1,7 +1,7 @@
 //! Good lines, and text that is none.
 
-use crate::commands::{Command, Line};
-use crate::lines::{command, line};
+use crate::commands::Command;
+use crate::lines::Line;
 use crate::numbers::number;
 use std::test::Fail;
 
@@ -18,17 +18,17 @@ fn each_letter_names_its_command(rt: HostRuntime) {
         ("r 90", Command::ReleaseWeak, 90),
     ];
     for (text, command, number) in lines {
-        assert_eq!(rt; line(text), Some(Line { command, number }));
+        assert_eq!(rt; text.parse::<Line>().ok(), Some(Line { command, number }));
     }
 }
 
 #[test]
 fn letters_name_back(rt: HostRuntime) -> Result<(), Fail> {
     for letter in "ncwmdutr".chars() {
-        let command = command(letter).ok_or("no command")?;
-        assert_eq!(rt; command.letter(), letter);
+        let command = Command::try_from(letter)?;
+        assert_eq!(rt; char::from(command), letter);
     }
-    assert_eq!(rt; command('x'), None);
+    assert_eq!(rt; Command::try_from('x').ok(), None);
     Ok(())
 }
 
@@ -63,6 +63,6 @@ fn malformed_lines_are_none(rt: HostRuntime) {
         "n 1a",
     ];
     for text in lines {
-        assert_eq!(rt; line(text), None);
+        assert_eq!(rt; text.parse::<Line>().ok(), None);
     }
 }

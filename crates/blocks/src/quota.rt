@@ -39,7 +39,7 @@ impl<A: Allocator> Quota<A> {
     // Whether `n` places more keep within the limit.
     fn has_room(&self, n: usize) -> bool
         ensures { result ≡ nat_le
-            (total (A.Allocator.meaning self.now.below).out + n)
+            (total (A.meaning self.now.below).out + n)
             self.now.limit }
     {
         n <= self.limit && self.below.used() <= self.limit - n
@@ -47,7 +47,7 @@ impl<A: Allocator> Quota<A> {
 }
 
 impl<A: Allocator> Allocator for Quota<A> {
-    ghost meaning = { λ s. quota_over s.limit (A.Allocator.meaning s.below) };
+    ghost meaning = { λ s. quota_over s.limit (A.meaning s.below) };
 
     ghost small = { Prim.search rules };
 
@@ -58,7 +58,7 @@ impl<A: Allocator> Allocator for Quota<A> {
     ghost one = { Prim.search rules };
 
     ghost fewer = { λ a b bs n h.
-        quota_fewer a.limit (A.Allocator.meaning a.below).fits b bs n
+        quota_fewer a.limit (A.meaning a.below).fits b bs n
         (A.Allocator.fewer a.below b bs n) h };
 
     fn extent(&self) -> usize {

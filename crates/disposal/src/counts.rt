@@ -19,7 +19,7 @@ impl<A: Allocator> Store<A> {
     /// The block of the cell at `p` goes back.
     fn give_back(&mut self, p: usize, receipt: &mut Receipt)
         requires { room receipt.old }
-        ensures books { books_of A.Allocator.meaning self.new receipt.new ≡ returned (books_of A.Allocator.meaning self.old receipt.old) p }
+        ensures books { books_of A.meaning self.new receipt.new ≡ returned (books_of A.meaning self.old receipt.old) p }
         ensures links { links_in self.new.table ≡ links_in self.old.table }
     {
         let size = usize::from(self.table.get(p).counts.size);
@@ -33,7 +33,7 @@ impl<A: Allocator> Store<A> {
     fn leave(&mut self, p: usize, cell: Cell, receipt: &mut Receipt)
         requires room { room receipt.old }
         requires link { cell.link ≡ link_at (links_in self.old.table) p }
-        ensures books { books_of A.Allocator.meaning self.new receipt.new ≡ left_with (books_of A.Allocator.meaning self.old receipt.old) p cell.counts }
+        ensures books { books_of A.meaning self.new receipt.new ≡ left_with (books_of A.meaning self.old receipt.old) p cell.counts }
         ensures links { links_in self.new.table ≡ links_in self.old.table }
     {
         if cell.counts.weak > 0 {
@@ -46,7 +46,7 @@ impl<A: Allocator> Store<A> {
     /// A weak handle at `p` goes.
     pub(crate) fn lower_weak(&mut self, p: usize, receipt: &mut Receipt)
         requires { room receipt.old }
-        ensures books { books_of A.Allocator.meaning self.new receipt.new ≡ weak_released (books_of A.Allocator.meaning self.old receipt.old) p }
+        ensures books { books_of A.meaning self.new receipt.new ≡ weak_released (books_of A.meaning self.old receipt.old) p }
         ensures links { links_in self.new.table ≡ links_in self.old.table }
     {
         match Cell::of(self.table.get(p)).and_then(|cell| cell.dec(Sort::Weak)) {
@@ -58,7 +58,7 @@ impl<A: Allocator> Store<A> {
     /// The last owner at `p` goes, with its weak count.
     pub(crate) fn close(&mut self, p: usize, receipt: &mut Receipt)
         requires { room receipt.old }
-        ensures books { books_of A.Allocator.meaning self.new receipt.new ≡ closed (books_of A.Allocator.meaning self.old receipt.old) p }
+        ensures books { books_of A.meaning self.new receipt.new ≡ closed (books_of A.meaning self.old receipt.old) p }
         ensures links { links_in self.new.table ≡ links_in self.old.table }
     {
         if let Some(cell) = Cell::of(self.table.get(p)).and_then(|cell| cell.retire()) {
@@ -75,7 +75,7 @@ impl<A: Allocator> Store<A> {
         receipt: &mut Receipt,
     ) -> Option<u16>
         requires { room receipt.old }
-        ensures books { books_of A.Allocator.meaning self.new receipt.new ≡ (if sole (at (counts_in self.old.table) p) then begun (books_of A.Allocator.meaning self.old receipt.old) p else books_of A.Allocator.meaning self.old receipt.old) }
+        ensures books { books_of A.meaning self.new receipt.new ≡ (if sole (at (counts_in self.old.table) p) then begun (books_of A.meaning self.old receipt.old) p else books_of A.meaning self.old receipt.old) }
         ensures links { links_in self.new.table ≡ (if sole (at (counts_in self.old.table) p) then slice_set (links_in self.old.table) p (Some (fresh p (at (counts_in self.old.table) p).standing back)) else links_in self.old.table) }
         ensures place { result ≡ (if sole (at (counts_in self.old.table) p) then Some p else back) }
     {
@@ -107,9 +107,9 @@ impl<A: Allocator> Store<A> {
         receipt: &mut Receipt,
     ) -> Option<u16>
         requires { room receipt.old }
-        ensures books { books_of A.Allocator.meaning self.new receipt.new ≡ strong_released (books_of A.Allocator.meaning self.old receipt.old) p }
-        ensures links { links_in self.new.table ≡ entered (Strong p) (books_of A.Allocator.meaning self.old receipt.old) (links_in self.old.table) back }
-        ensures place { result ≡ onto (Strong p) (books_of A.Allocator.meaning self.old receipt.old) back }
+        ensures books { books_of A.meaning self.new receipt.new ≡ strong_released (books_of A.meaning self.old receipt.old) p }
+        ensures links { links_in self.new.table ≡ entered (Strong p) (books_of A.meaning self.old receipt.old) (links_in self.old.table) back }
+        ensures place { result ≡ onto (Strong p) (books_of A.meaning self.old receipt.old) back }
     {
         let Some(cell) = Cell::of(self.table.get(p)).and_then(|cell| cell.dec(Sort::Strong)) else {
             receipt.strays += 1;

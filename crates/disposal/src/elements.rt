@@ -7,7 +7,7 @@ use element::{Element, Reference};
 
 /// Reference `i` of the element at `k`; empty past the end.
 pub fn reference_at<E: Element>(memory: &[E], k: usize, i: usize) -> Reference
-    ensures { result ≡ slice_index_or (slice_index_or (map E.Element.refs memory.now) k []) i Empty }
+    ensures { result ≡ slice_index_or (slice_index_or (map E.refs memory.now) k []) i Empty }
 {
     memory.get(k).map_or(Reference::Empty, |x| x.reference(i))
 }

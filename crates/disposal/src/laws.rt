@@ -9,8 +9,8 @@ use element::Element;
 
 /// The disposal of any cell and the release of any reference end, and in one way only.
 pub fn disposal_stands<E: Element>(memory: &[E]) -> u8
-    ensures disposes { (p : ℕ) → OneOutcome (Disposes E.Element.refs memory.now p) }
-    ensures releases { (r : Reference) → OneOutcome (Release E.Element.refs memory.now r) }
+    ensures disposes { (p : ℕ) → OneOutcome (Disposes E.refs memory.now p) }
+    ensures releases { (r : Reference) → OneOutcome (Release E.refs memory.now r) }
 {
     0
 }
@@ -18,8 +18,8 @@ pub fn disposal_stands<E: Element>(memory: &[E]) -> u8
 /// From any world, a disposal or a release lists at most the elements that stood in cells, and
 /// disposes of each cell at most once.
 pub fn disposal_is_bounded<E: Element>(memory: &[E]) -> u8
-    ensures listed { ListsAtMost E.Element.refs memory.now }
-    ensures once { OnceEach E.Element.refs memory.now }
+    ensures listed { ListsAtMost E.refs memory.now }
+    ensures once { OnceEach E.refs memory.now }
 {
     0
 }

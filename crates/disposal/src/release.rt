@@ -14,7 +14,7 @@ impl<A: Allocator> Store<A> {
     /// Releases `r`. The elements of the cells that die by it are written to the list, in the order
     /// in which they go; those that it has no place for are counted only.
     pub fn release<E: Element>(&mut self, memory: &[E], list: &mut [E], r: Reference) -> Receipt
-        ensures release { Release E.Element.refs memory.now r (world_of A.Allocator.meaning self.old none_yet list.old) (world_of A.Allocator.meaning self.new result list.new) }
+        ensures release { Release E.refs memory.now r (world_of A.meaning self.old none_yet list.old) (world_of A.meaning self.new result list.new) }
         ensures links { Resting (links_in self.old.table) → Resting (links_in self.new.table) }
     {
         let mut receipt = Receipt::default();
@@ -25,7 +25,7 @@ impl<A: Allocator> Store<A> {
 
     /// The last owner at `p` lets go of its cell, with the elements in it.
     pub fn dispose<E: Element>(&mut self, memory: &[E], list: &mut [E], p: usize) -> Receipt
-        ensures dispose { Abandons E.Element.refs memory.now p (world_of A.Allocator.meaning self.old none_yet list.old) (world_of A.Allocator.meaning self.new result list.new) }
+        ensures dispose { Abandons E.refs memory.now p (world_of A.meaning self.old none_yet list.old) (world_of A.meaning self.new result list.new) }
         ensures links { Resting (links_in self.old.table) → Resting (links_in self.new.table) }
     {
         let mut receipt = Receipt::default();
@@ -39,7 +39,7 @@ impl<A: Allocator> Store<A> {
 
     /// Releases a weak handle at `p`, by which no element goes.
     pub fn release_weak(&mut self, p: usize) -> Receipt
-        ensures books { books_of A.Allocator.meaning self.new result ≡ weak_released (books_of A.Allocator.meaning self.old none_yet) p }
+        ensures books { books_of A.meaning self.new result ≡ weak_released (books_of A.meaning self.old none_yet) p }
         ensures links { links_in self.new.table ≡ links_in self.old.table }
     {
         let mut receipt = Receipt::default();
@@ -49,7 +49,7 @@ impl<A: Allocator> Store<A> {
 
     /// The last owner at `p` goes, whose elements have gone elsewhere.
     pub fn retire(&mut self, p: usize) -> Receipt
-        ensures books { books_of A.Allocator.meaning self.new result ≡ closed (books_of A.Allocator.meaning self.old none_yet) p }
+        ensures books { books_of A.meaning self.new result ≡ closed (books_of A.meaning self.old none_yet) p }
         ensures links { links_in self.new.table ≡ links_in self.old.table }
     {
         let mut receipt = Receipt::default();

@@ -28,9 +28,9 @@ impl<A: Allocator> Store<A> {
         receipt: &mut Receipt,
     ) -> Option<u16>
         requires { room receipt.old }
-        ensures books { books_of A.Allocator.meaning self.new receipt.new ≡ released r (books_of A.Allocator.meaning self.old receipt.old) }
-        ensures links { links_in self.new.table ≡ entered r (books_of A.Allocator.meaning self.old receipt.old) (links_in self.old.table) from }
-        ensures place { result ≡ onto r (books_of A.Allocator.meaning self.old receipt.old) from }
+        ensures books { books_of A.meaning self.new receipt.new ≡ released r (books_of A.meaning self.old receipt.old) }
+        ensures links { links_in self.new.table ≡ entered r (books_of A.meaning self.old receipt.old) (links_in self.old.table) from }
+        ensures place { result ≡ onto r (books_of A.meaning self.old receipt.old) from }
     {
         match r {
             Reference::Empty => from,
@@ -52,9 +52,9 @@ impl<A: Allocator> Store<A> {
     ) -> Option<u16>
         requires room { room receipt.old }
         requires more { link.reference < 4 }
-        ensures books { books_of A.Allocator.meaning self.new receipt.new ≡ released (next_reference E.Element.refs memory.now link) (books_of A.Allocator.meaning self.old receipt.old) }
-        ensures links { links_in self.new.table ≡ past_reference (next_reference E.Element.refs memory.now link) (books_of A.Allocator.meaning self.old receipt.old) (links_in self.old.table) p link }
-        ensures place { result ≡ onto (next_reference E.Element.refs memory.now link) (books_of A.Allocator.meaning self.old receipt.old) (Some p) }
+        ensures books { books_of A.meaning self.new receipt.new ≡ released (next_reference E.refs memory.now link) (books_of A.meaning self.old receipt.old) }
+        ensures links { links_in self.new.table ≡ past_reference (next_reference E.refs memory.now link) (books_of A.meaning self.old receipt.old) (links_in self.old.table) p link }
+        ensures place { result ≡ onto (next_reference E.refs memory.now link) (books_of A.meaning self.old receipt.old) (Some p) }
     {
         let listed = (link.next as usize).saturating_sub(1);
         let r = reference_at(memory, listed, link.reference as usize);
@@ -78,7 +78,7 @@ impl<A: Allocator> Store<A> {
         requires room { room receipt.old }
         requires more { link.next < link.end }
         ensures list { list.new ≡ slice_set list.old receipt.old.listed x }
-        ensures books { books_of A.Allocator.meaning self.new receipt.new ≡ books_of A.Allocator.meaning self.old (one_listed receipt.old) }
+        ensures books { books_of A.meaning self.new receipt.new ≡ books_of A.meaning self.old (one_listed receipt.old) }
         ensures links { links_in self.new.table ≡ past_element (links_in self.old.table) p link }
     {
         write_at(list, receipt.listed, x);
@@ -94,7 +94,7 @@ impl<A: Allocator> Store<A> {
     /// Closes the cell, and answers the one that it was released from.
     fn turn_close(&mut self, p: u16, link: Link, receipt: &mut Receipt) -> Option<u16>
         requires { room receipt.old }
-        ensures books { books_of A.Allocator.meaning self.new receipt.new ≡ closed (books_of A.Allocator.meaning self.old receipt.old) p }
+        ensures books { books_of A.meaning self.new receipt.new ≡ closed (books_of A.meaning self.old receipt.old) p }
         ensures links { links_in self.new.table ≡ past_end (links_in self.old.table) p }
         ensures place { result ≡ link.back }
     {
@@ -115,7 +115,7 @@ impl<A: Allocator> Store<A> {
     ) -> Option<u16>
         requires room { room receipt.old }
         requires link { link_at (links_in self.old.table) p ≡ Some link }
-        ensures { Turned E.Element.refs memory.now (walk_of A.Allocator.meaning self.old receipt.old list.old (Some p)) (walk_of A.Allocator.meaning self.new receipt.new list.new result) }
+        ensures { Turned E.refs memory.now (walk_of A.meaning self.old receipt.old list.old (Some p)) (walk_of A.meaning self.new receipt.new list.new result) }
     {
         if link.reference < REFERENCES {
             self.turn_reference(memory, p, link, receipt)
@@ -139,7 +139,7 @@ impl<A: Allocator> Store<A> {
     )
         requires stack { Chain (counts_in self.old.table) (links_in self.old.table) from (stack_of from) }
         requires few { tally receipt.old ≤ 1 }
-        ensures does { Does E.Element.refs memory.now (todo E.Element.refs memory.now (links_in self.old.table) (stack_of from)) (world_of A.Allocator.meaning self.old receipt.old list.old) (world_of A.Allocator.meaning self.new receipt.new list.new) }
+        ensures does { Does E.refs memory.now (todo E.refs memory.now (links_in self.old.table) (stack_of from)) (world_of A.meaning self.old receipt.old list.old) (world_of A.meaning self.new receipt.new list.new) }
         ensures rests { Idle (links_in self.old.table) (stack_of from) → Resting (links_in self.new.table) }
     {
         let mut place = from;

@@ -22,9 +22,9 @@ use Rattle.rc.specs.Tickets.{ticket_of, place_of}
 use Rattle.rc.specs.Worlds.{World, with_row}
 use Rattle.rc.specs.declared.decline.Decline.{Decline}
 use Rattle.rc.specs.declared.decline.Refused.{Refused}
-use Rattle.rc.specs.declared.handle.Rc.{Rc}
+use Rattle.rc.specs.Handles.{Rc}
 use Rattle.rc.specs.declared.handle.Ticket.{Ticket}
-use Rattle.rc.specs.declared.handle.Weak.{Weak}
+use Rattle.rc.specs.Handles.{Weak}
 use Rattle.rc.proofs.Admitted.{hold, loosen, hold_weak, loosen_weak, add_strong, add_weak, held_strong_admitted, held_weak_admitted}
 use Rattle.rc.proofs.Admitted.{weaker_strong, weaker_weak, stronger_strong, stronger_weak}
 use Rattle.rc.proofs.Admitted.{loosened_weak_strong, loosened_strong_weak, cell_within, row_back, row_again, row_here, rc_in_row}

@@ -13,7 +13,7 @@ use Rattle.rc.specs.Ends.{Copied, Moved, MovedTo, MakeMut, full_copy}
 use Rattle.rc.specs.Housed.{AllHoused}
 use Rattle.rc.specs.Worlds.{World}
 use Rattle.rc.specs.declared.decline.Decline.{Decline}
-use Rattle.rc.specs.declared.handle.Rc.{Rc}
+use Rattle.rc.specs.Handles.{Rc}
 use Rattle.rc.specs.declared.handle.Ticket.{Ticket}
 use Rattle.rc.proofs.Admitted.{rc_stands, rc_admitted}
 use Rattle.rc.proofs.Fresh.{Ready, Fresh, copied_fresh, moved_fresh}

@@ -38,7 +38,7 @@ impl Display for Reply {
                 write!(f, "{command} {answer} {strong} {weak}")
             }
             Reply::Declined(why) => {
-                let number = why.number();
+                let number = u8::from(why);
                 write!(f, "! {number}")
             }
             Reply::Unknown => write!(f, "?"),

@@ -17,14 +17,14 @@ pub struct Census<A: Allocator> {
 impl<A: Allocator> Census<A> {
     /// The cell at a place, if one stands there.
     pub(crate) fn cell(&self, place: u32) -> Option<Cell>
-        ensures { StandsAs (at (world A.Allocator.meaning self.now).rows place) result }
+        ensures { StandsAs (at (world A.meaning self.now).rows place) result }
     {
         Cell::of(self.store.table.get(place as usize))
     }
 
     /// Writes a cell at a place.
     pub(crate) fn put(&mut self, place: u32, cell: Cell)
-        ensures { world A.Allocator.meaning self.new ≡ with_row (world A.Allocator.meaning self.old) place cell.counts }
+        ensures { world A.meaning self.new ≡ with_row (world A.meaning self.old) place cell.counts }
     {
         self.store.table.put(place as usize, Row::from(cell));
     }

@@ -16,7 +16,7 @@ use element::{Element, Sort};
 impl<A: Allocator> Census<A> {
     /// 1: the memory lent is as long as the extent.
     pub(crate) fn check_memory<E: Element>(&self, memory: &[E]) -> Result<(), Decline>
-        ensures { Answers (wrong_memory (world A.Allocator.meaning self.now) memory.now ∷ []) result (λ _. Unit {0}) (Unit {0}) }
+        ensures { Answers (wrong_memory (world A.meaning self.now) memory.now ∷ []) result (λ _. Unit {0}) (Unit {0}) }
     {
         if memory.len() == self.store.alloc.extent() {
             Ok(())
@@ -27,7 +27,7 @@ impl<A: Allocator> Census<A> {
 
     /// 2: the list has room for all elements standing.
     pub(crate) fn check_list<E: Element>(&self, list: &[E]) -> Result<(), Decline>
-        ensures { Answers (short_list (world A.Allocator.meaning self.now) list.now ∷ []) result (λ _. Unit {0}) (Unit {0}) }
+        ensures { Answers (short_list (world A.meaning self.now) list.now ∷ []) result (λ _. Unit {0}) (Unit {0}) }
     {
         if list.len() < self.store.table.standing() {
             Err(Decline::List)
@@ -38,7 +38,7 @@ impl<A: Allocator> Census<A> {
 
     /// 3: a cell of this census admits the handle.
     pub(crate) fn check_handle(&self, sort: Sort, ticket: Ticket) -> Result<Cell, Decline>
-        ensures { Answers (no_handle sort (world A.Allocator.meaning self.now) ticket ∷ []) result (λ c. c.counts ≡ at (world A.Allocator.meaning self.now).rows ticket.place) (Unit {0}) }
+        ensures { Answers (no_handle sort (world A.meaning self.now) ticket ∷ []) result (λ c. c.counts ≡ at (world A.meaning self.now).rows ticket.place) (Unit {0}) }
     {
         if ticket.census != self.number {
             return Err(Decline::Handle);
@@ -50,7 +50,7 @@ impl<A: Allocator> Census<A> {
 
     /// 4: a handle of the sort is loose at `place`.
     pub(crate) fn check_loose(&self, sort: Sort, place: u32) -> Result<Cell, Decline>
-        ensures { Answers (no_loose sort (world A.Allocator.meaning self.now) place ∷ []) result (λ c. c.counts ≡ at (world A.Allocator.meaning self.now).rows place) (Unit {0}) }
+        ensures { Answers (no_loose sort (world A.meaning self.now) place ∷ []) result (λ c. c.counts ≡ at (world A.meaning self.now).rows place) (Unit {0}) }
     {
         self.cell(place)
             .filter(|cell| cell.counts.loose(sort) > 0)
@@ -59,7 +59,7 @@ impl<A: Allocator> Census<A> {
 
     /// 4: a strong handle is out at `place`.
     pub(crate) fn check_strong(&self, place: u32) -> Result<Cell, Decline>
-        ensures { Answers (no_strong (world A.Allocator.meaning self.now) place ∷ []) result (λ c. c.counts ≡ at (world A.Allocator.meaning self.now).rows place) (Unit {0}) }
+        ensures { Answers (no_strong (world A.meaning self.now) place ∷ []) result (λ c. c.counts ≡ at (world A.meaning self.now).rows place) (Unit {0}) }
     {
         self.cell(place)
             .filter(|cell| cell.counts.strong > 0)
@@ -73,7 +73,7 @@ impl<A: Allocator> Census<A> {
         sort: Sort,
         ticket: Ticket,
     ) -> Result<Cell, Decline>
-        ensures { Answers (wrong_memory (world A.Allocator.meaning self.now) memory.now ∷ no_handle sort (world A.Allocator.meaning self.now) ticket ∷ []) result (λ c. c.counts ≡ at (world A.Allocator.meaning self.now).rows ticket.place) (Unit {0}) }
+        ensures { Answers (wrong_memory (world A.meaning self.now) memory.now ∷ no_handle sort (world A.meaning self.now) ticket ∷ []) result (λ c. c.counts ≡ at (world A.meaning self.now).rows ticket.place) (Unit {0}) }
     {
         self.check_memory(memory)?;
         self.check_handle(sort, ticket)
@@ -85,7 +85,7 @@ impl<A: Allocator> Census<A> {
         memory: &[E],
         ticket: Option<Ticket>,
     ) -> Result<Option<Cell>, Decline>
-        ensures { Answers (wrong_memory (world A.Allocator.meaning self.now) memory.now ∷ no_weak (world A.Allocator.meaning self.now) ticket ∷ []) result (IsCellOf (world A.Allocator.meaning self.now) ticket) (Unit {0}) }
+        ensures { Answers (wrong_memory (world A.meaning self.now) memory.now ∷ no_weak (world A.meaning self.now) ticket ∷ []) result (IsCellOf (world A.meaning self.now) ticket) (Unit {0}) }
     {
         self.check_memory(memory)?;
         let Some(ticket) = ticket else {
@@ -101,7 +101,7 @@ impl<A: Allocator> Census<A> {
         list: &[E],
         ticket: Ticket,
     ) -> Result<Cell, Decline>
-        ensures { Answers (wrong_memory (world A.Allocator.meaning self.now) memory.now ∷ short_list (world A.Allocator.meaning self.now) list.now ∷ no_rc (world A.Allocator.meaning self.now) ticket ∷ []) result (λ _. Unit {0}) (Unit {0}) }
+        ensures { Answers (wrong_memory (world A.meaning self.now) memory.now ∷ short_list (world A.meaning self.now) list.now ∷ no_rc (world A.meaning self.now) ticket ∷ []) result (λ _. Unit {0}) (Unit {0}) }
     {
         self.check_memory(memory)?;
         self.check_list(list)?;
@@ -114,7 +114,7 @@ impl<A: Allocator> Census<A> {
         memory: &[E],
         ticket: Ticket,
     ) -> Result<E, Decline>
-        ensures { Answers (wrong_memory (world A.Allocator.meaning self.now) memory.now ∷ no_rc (world A.Allocator.meaning self.now) ticket ∷ past_memory memory.now ticket.place ∷ slice_cell (world A.Allocator.meaning self.now) ticket.place ∷ not_sole (world A.Allocator.meaning self.now) ticket.place ∷ []) result (λ x. take 1 (drop ticket.place memory.now) ≡ x ∷ []) (Unit {0}) }
+        ensures { Answers (wrong_memory (world A.meaning self.now) memory.now ∷ no_rc (world A.meaning self.now) ticket ∷ past_memory memory.now ticket.place ∷ slice_cell (world A.meaning self.now) ticket.place ∷ not_sole (world A.meaning self.now) ticket.place ∷ []) result (λ x. take 1 (drop ticket.place memory.now) ≡ x ∷ []) (Unit {0}) }
     {
         let cell = self.admit(memory, Sort::Strong, ticket)?;
         let place = ticket.place as usize;

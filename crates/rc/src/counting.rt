@@ -26,14 +26,14 @@ fn others_alive(counts: Counts) -> u16
 impl<A: Allocator> Census<A> {
     /// What the census has stored for a place, for programs that show it.
     pub fn stored(&self, place: u32) -> Counts
-        ensures { result ≡ at (world A.Allocator.meaning self.now).rows place }
+        ensures { result ≡ at (world A.meaning self.now).rows place }
     {
         self.store.table.get(place as usize).counts
     }
 
     /// How many strong handles the cell has.
     pub fn rc_strong_count<E: Element>(&self, memory: &[E], rc: &Rc) -> Result<u16, Decline>
-        ensures { RcCount (λ k. k.strong) (world A.Allocator.meaning self.now) memory.now rc.now.ticket result }
+        ensures { RcCount (λ k. k.strong) (world A.meaning self.now) memory.now rc.now.ticket result }
     {
         let cell = self.admit(memory, Sort::Strong, rc.ticket)?;
         Ok(cell.counts.strong)
@@ -41,7 +41,7 @@ impl<A: Allocator> Census<A> {
 
     /// How many weak handles the cell has; the owner's does not count.
     pub fn rc_weak_count<E: Element>(&self, memory: &[E], rc: &Rc) -> Result<u16, Decline>
-        ensures { RcCount others (world A.Allocator.meaning self.now) memory.now rc.now.ticket result }
+        ensures { RcCount others (world A.meaning self.now) memory.now rc.now.ticket result }
     {
         let cell = self.admit(memory, Sort::Strong, rc.ticket)?;
         Ok(cell.counts.weak.saturating_sub(1))
@@ -49,7 +49,7 @@ impl<A: Allocator> Census<A> {
 
     /// How many strong handles the cell has; 0 for an empty `Weak`.
     pub fn weak_strong_count<E: Element>(&self, memory: &[E], weak: &Weak) -> Result<u16, Decline>
-        ensures { WeakCount (λ k. k.strong) (world A.Allocator.meaning self.now) memory.now weak.now.ticket result }
+        ensures { WeakCount (λ k. k.strong) (world A.meaning self.now) memory.now weak.now.ticket result }
     {
         let cell = self.admit_weak(memory, weak.ticket)?;
         Ok(cell.map_or(0, |cell| cell.counts.strong))
@@ -58,7 +58,7 @@ impl<A: Allocator> Census<A> {
     /// How many weak handles the cell has while a strong one is left; 0 after that, and for an empty
     /// `Weak`.
     pub fn weak_weak_count<E: Element>(&self, memory: &[E], weak: &Weak) -> Result<u16, Decline>
-        ensures { WeakCount others_alive (world A.Allocator.meaning self.now) memory.now weak.now.ticket result }
+        ensures { WeakCount others_alive (world A.meaning self.now) memory.now weak.now.ticket result }
     {
         let cell = self.admit_weak(memory, weak.ticket)?;
         Ok(cell.map_or(0, |cell| others_alive(cell.counts)))

@@ -11,7 +11,7 @@ use disposal::Store;
 impl<A: Allocator> Census<A> {
     /// A census without cells, over the blocks of `alloc`.
     pub fn open(number: u32, alloc: A) -> Census<A>
-        ensures { world A.Allocator.meaning result ≡ opened number (A.Allocator.meaning alloc) }
+        ensures { world A.meaning result ≡ opened number (A.meaning alloc) }
     {
         let table = Table::new();
         Census {

@@ -13,7 +13,7 @@ use element::{Element, Sort};
 impl<A: Allocator> Census<A> {
     /// The elements of the cell.
     pub fn look<'a, E: Element>(&self, memory: &'a [E], rc: &Rc) -> Result<&'a [E], Decline>
-        ensures { Look (world A.Allocator.meaning self.now) memory.now rc.now.ticket result }
+        ensures { Look (world A.meaning self.now) memory.now rc.now.ticket result }
     {
         let cell = self.admit(memory, Sort::Strong, rc.ticket)?;
         Ok(part(

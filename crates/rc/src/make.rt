@@ -15,7 +15,7 @@ use references::{hold_all, lacks_some, references_of};
 impl<A: Allocator> Census<A> {
     /// A block of `n` places, the only call of the allocator for one.
     pub(crate) fn allocate(&mut self, n: u16) -> Result<u32, Decline>
-        ensures { Allocated (world A.Allocator.meaning self.old) n result (world A.Allocator.meaning self.new) }
+        ensures { Allocated (world A.meaning self.old) n result (world A.meaning self.new) }
     {
         let offset = self.store.alloc.allocate(usize::from(n))?;
         Ok(offset as u32)
@@ -23,7 +23,7 @@ impl<A: Allocator> Census<A> {
 
     /// A single cell with `x` in it.
     pub fn new<E: Element>(&mut self, memory: &mut [E], x: E) -> Result<Rc, Decline>
-        ensures { New E.Element.refs (world A.Allocator.meaning self.old) memory.old x result (world A.Allocator.meaning self.new) memory.new }
+        ensures { New E.refs (world A.meaning self.old) memory.old x result (world A.meaning self.new) memory.new }
     {
         self.check_memory(memory)?;
         let rs = references_of(&x);

@@ -61,7 +61,7 @@ fn copy_within<E: Element>(memory: &mut [E], from: u32, to: u32, n: u16)
 impl<A: Allocator> Census<A> {
     /// Copies the elements of a cell at `p` to the block at `q`, where a cell of one `Rc` then stands.
     fn stand_copy<E: Element>(&mut self, memory: &mut [E], p: u32, q: u32, counts: Counts)
-        ensures world { world A.Allocator.meaning self.new ≡ with_row (world A.Allocator.meaning self.old) q (shared counts.shape counts.size counts.standing) }
+        ensures world { world A.meaning self.new ≡ with_row (world A.meaning self.old) q (shared counts.shape counts.size counts.standing) }
         ensures memory { memory.new ≡ copied memory.old p q counts.standing }
     {
         copy_within(memory, p, q, counts.standing);
@@ -75,8 +75,8 @@ impl<A: Allocator> Census<A> {
         p: u32,
         counts: Counts,
     ) -> Result<u32, Decline>
-        requires { counts ≡ at (world A.Allocator.meaning self.old).rows p }
-        ensures { Copies E.Element.refs (world A.Allocator.meaning self.old) memory.old p result (world A.Allocator.meaning self.new) memory.new }
+        requires { counts ≡ at (world A.meaning self.old).rows p }
+        ensures { Copies E.refs (world A.meaning self.old) memory.old p result (world A.meaning self.new) memory.new }
     {
         raise_all(&mut self.store.table, memory, p, counts.standing)?;
         let q = match self.allocate(counts.size) {
@@ -99,8 +99,8 @@ impl<A: Allocator> Census<A> {
         p: u32,
         counts: Counts,
     ) -> Result<u32, Decline>
-        requires { counts ≡ at (world A.Allocator.meaning self.old).rows p }
-        ensures { Moves (world A.Allocator.meaning self.old) memory.old p result (world A.Allocator.meaning self.new) memory.new }
+        requires { counts ≡ at (world A.meaning self.old).rows p }
+        ensures { Moves (world A.meaning self.old) memory.old p result (world A.meaning self.new) memory.new }
     {
         let q = self.allocate(counts.size)?;
         self.stand_copy(memory, p, q, counts);
@@ -111,7 +111,7 @@ impl<A: Allocator> Census<A> {
     /// Makes the cell of `rc` its own: it copies the cell where another strong handle is out, and
     /// moves the elements to a new one where a weak handle is.
     pub fn make_mut<E: Element>(&mut self, memory: &mut [E], rc: &mut Rc) -> Result<(), Decline>
-        ensures { MakeMut E.Element.refs (world A.Allocator.meaning self.old) memory.old rc.old result (world A.Allocator.meaning self.new) memory.new rc.new }
+        ensures { MakeMut E.refs (world A.meaning self.old) memory.old rc.old result (world A.meaning self.new) memory.new rc.new }
     {
         let place = rc.ticket.place;
         let counts = self.admit(memory, Sort::Strong, rc.ticket)?.counts;

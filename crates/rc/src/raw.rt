@@ -20,9 +20,9 @@ impl<A: Allocator> Census<A> {
         sort: Sort,
         ticket: Ticket,
     ) -> Result<u32, Decline>
-        ensures { Answers (wrong_memory (world A.Allocator.meaning self.old) memory.now ∷ no_handle sort (world A.Allocator.meaning self.old) ticket ∷ []) result
-            (λ p. (p ≡ ticket.place) × (world A.Allocator.meaning self.new ≡ loosened_at sort (world A.Allocator.meaning self.old) ticket.place))
-            (world A.Allocator.meaning self.new ≡ world A.Allocator.meaning self.old) }
+        ensures { Answers (wrong_memory (world A.meaning self.old) memory.now ∷ no_handle sort (world A.meaning self.old) ticket ∷ []) result
+            (λ p. (p ≡ ticket.place) × (world A.meaning self.new ≡ loosened_at sort (world A.meaning self.old) ticket.place))
+            (world A.meaning self.new ≡ world A.meaning self.old) }
     {
         let cell = self.admit(memory, sort, ticket)?;
         let loose = cell.loosen(sort).ok_or(Decline::Handle)?;
@@ -32,9 +32,9 @@ impl<A: Allocator> Census<A> {
 
     /// Holds a loose handle again, and answers its ticket.
     pub(crate) fn hold(&mut self, sort: Sort, place: u32) -> Result<Ticket, Decline>
-        ensures { Answers (no_loose sort (world A.Allocator.meaning self.old) place ∷ []) result
-            (λ t. (t ≡ ticket_of (world A.Allocator.meaning self.old).number place) × (world A.Allocator.meaning self.new ≡ held_at sort (world A.Allocator.meaning self.old) place))
-            (world A.Allocator.meaning self.new ≡ world A.Allocator.meaning self.old) }
+        ensures { Answers (no_loose sort (world A.meaning self.old) place ∷ []) result
+            (λ t. (t ≡ ticket_of (world A.meaning self.old).number place) × (world A.meaning self.new ≡ held_at sort (world A.meaning self.old) place))
+            (world A.meaning self.new ≡ world A.meaning self.old) }
     {
         let cell = self.check_loose(sort, place)?;
         let held = cell.hold(sort).ok_or(Decline::Loose)?;
@@ -47,7 +47,7 @@ impl<A: Allocator> Census<A> {
 
     /// Makes the handle loose, and answers its place.
     pub fn rc_into_raw<E: Element>(&mut self, memory: &[E], rc: Rc) -> Result<u32, Refused<Rc>>
-        ensures { RcIntoRaw (world A.Allocator.meaning self.old) memory.now rc result (world A.Allocator.meaning self.new) }
+        ensures { RcIntoRaw (world A.meaning self.old) memory.now rc result (world A.meaning self.new) }
     {
         let place = self.loosen(memory, Sort::Strong, rc.ticket);
         rc.spend_on(place)
@@ -55,7 +55,7 @@ impl<A: Allocator> Census<A> {
 
     /// The `Rc` of a loose strong handle.
     pub fn rc_from_raw<E: Element>(&mut self, memory: &[E], place: u32) -> Result<Rc, Decline>
-        ensures { RcFromRaw (world A.Allocator.meaning self.old) memory.now place result (world A.Allocator.meaning self.new) }
+        ensures { RcFromRaw (world A.meaning self.old) memory.now place result (world A.meaning self.new) }
     {
         self.check_memory(memory)?;
         Ok(Handle::of(self.hold(Sort::Strong, place)?))
@@ -67,7 +67,7 @@ impl<A: Allocator> Census<A> {
         memory: &[E],
         weak: Weak,
     ) -> Result<Option<u32>, Refused<Weak>>
-        ensures { WeakIntoRaw (world A.Allocator.meaning self.old) memory.now weak result (world A.Allocator.meaning self.new) }
+        ensures { WeakIntoRaw (world A.meaning self.old) memory.now weak result (world A.meaning self.new) }
     {
         let place = match weak.ticket {
             Some(ticket) => self.loosen(memory, Sort::Weak, ticket).map(Some),
@@ -82,7 +82,7 @@ impl<A: Allocator> Census<A> {
         memory: &[E],
         place: Option<u32>,
     ) -> Result<Weak, Decline>
-        ensures { WeakFromRaw (world A.Allocator.meaning self.old) memory.now place result (world A.Allocator.meaning self.new) }
+        ensures { WeakFromRaw (world A.meaning self.old) memory.now place result (world A.meaning self.new) }
     {
         self.check_memory(memory)?;
         let Some(place) = place else {
@@ -97,7 +97,7 @@ impl<A: Allocator> Census<A> {
         memory: &[E],
         place: u32,
     ) -> Result<(), Decline>
-        ensures { Increment (world A.Allocator.meaning self.old) memory.now place result (world A.Allocator.meaning self.new) }
+        ensures { Increment (world A.meaning self.old) memory.now place result (world A.meaning self.new) }
     {
         self.check_memory(memory)?;
         let cell = self.check_strong(place)?;

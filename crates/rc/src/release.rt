@@ -21,9 +21,9 @@ impl<A: Allocator> Census<A> {
         list: &mut [E],
         ticket: Ticket,
     ) -> Result<Receipt, Decline>
-        ensures { Answers (wrong_memory (world A.Allocator.meaning self.old) memory.now ∷ short_list (world A.Allocator.meaning self.old) list.old ∷ no_rc (world A.Allocator.meaning self.old) ticket ∷ []) result
-            (λ t. Goes E.Element.refs memory.now ticket.place (world A.Allocator.meaning self.old) list.old t (world A.Allocator.meaning self.new) list.new)
-            ((world A.Allocator.meaning self.new ≡ world A.Allocator.meaning self.old) × (list.new ≡ list.old)) }
+        ensures { Answers (wrong_memory (world A.meaning self.old) memory.now ∷ short_list (world A.meaning self.old) list.old ∷ no_rc (world A.meaning self.old) ticket ∷ []) result
+            (λ t. Goes E.refs memory.now ticket.place (world A.meaning self.old) list.old t (world A.meaning self.new) list.new)
+            ((world A.meaning self.new ≡ world A.meaning self.old) × (list.new ≡ list.old)) }
     {
         self.check_release(memory, list, ticket)?;
         let gone = Reference::Strong(ticket.place);
@@ -36,9 +36,9 @@ impl<A: Allocator> Census<A> {
         memory: &[E],
         ticket: Option<Ticket>,
     ) -> Result<Receipt, Decline>
-        ensures { Answers (wrong_memory (world A.Allocator.meaning self.old) memory.now ∷ no_weak (world A.Allocator.meaning self.old) ticket ∷ []) result
-            (λ t. WeakGoes (world A.Allocator.meaning self.old) (place_of ticket) t (world A.Allocator.meaning self.new))
-            (world A.Allocator.meaning self.new ≡ world A.Allocator.meaning self.old) }
+        ensures { Answers (wrong_memory (world A.meaning self.old) memory.now ∷ no_weak (world A.meaning self.old) ticket ∷ []) result
+            (λ t. WeakGoes (world A.meaning self.old) (place_of ticket) t (world A.meaning self.new))
+            (world A.meaning self.new ≡ world A.meaning self.old) }
     {
         self.check_memory(memory)?;
         let Some(ticket) = ticket else {
@@ -56,7 +56,7 @@ impl<A: Allocator> Census<A> {
         list: &mut [E],
         rc: Rc,
     ) -> Result<Receipt, Refused<Rc>>
-        ensures { ReleasesRc E.Element.refs (world A.Allocator.meaning self.old) memory.now list.old rc result (world A.Allocator.meaning self.new) list.new }
+        ensures { ReleasesRc E.refs (world A.meaning self.old) memory.now list.old rc result (world A.meaning self.new) list.new }
     {
         let receipt = self.give_back(memory, list, rc.ticket);
         rc.spend_on(receipt)
@@ -69,7 +69,7 @@ impl<A: Allocator> Census<A> {
         list: &mut [E],
         place: u32,
     ) -> Result<Receipt, Decline>
-        ensures { Decrement E.Element.refs (world A.Allocator.meaning self.old) memory.now list.old place result (world A.Allocator.meaning self.new) list.new }
+        ensures { Decrement E.refs (world A.meaning self.old) memory.now list.old place result (world A.meaning self.new) list.new }
     {
         self.check_memory(memory)?;
         self.check_list(list)?;
@@ -83,7 +83,7 @@ impl<A: Allocator> Census<A> {
         memory: &[E],
         weak: Weak,
     ) -> Result<Receipt, Refused<Weak>>
-        ensures { ReleasesWeak (world A.Allocator.meaning self.old) memory.now weak result (world A.Allocator.meaning self.new) }
+        ensures { ReleasesWeak (world A.meaning self.old) memory.now weak result (world A.meaning self.new) }
     {
         let receipt = self.give_back_weak(memory, weak.ticket);
         weak.spend_on(receipt)

@@ -12,7 +12,7 @@ use element::{Element, Sort};
 impl<A: Allocator> Census<A> {
     /// A weak handle of the cell.
     pub fn downgrade<E: Element>(&mut self, memory: &[E], rc: &Rc) -> Result<Weak, Decline>
-        ensures { Downgrade (world A.Allocator.meaning self.old) memory.now rc.now.ticket result (world A.Allocator.meaning self.new) }
+        ensures { Downgrade (world A.meaning self.old) memory.now rc.now.ticket result (world A.meaning self.new) }
     {
         let ticket = rc.ticket;
         let cell = self.admit(memory, Sort::Strong, ticket)?;
@@ -23,7 +23,7 @@ impl<A: Allocator> Census<A> {
 
     /// An `Rc` of the cell, while it has a strong handle.
     pub fn upgrade<E: Element>(&mut self, memory: &[E], weak: &Weak) -> Result<Option<Rc>, Decline>
-        ensures { Upgrade (world A.Allocator.meaning self.old) memory.now weak.now.ticket result (world A.Allocator.meaning self.new) }
+        ensures { Upgrade (world A.meaning self.old) memory.now weak.now.ticket result (world A.meaning self.new) }
     {
         self.check_memory(memory)?;
         let Some(ticket) = weak.ticket else {

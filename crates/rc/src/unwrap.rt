@@ -17,7 +17,7 @@ impl<A: Allocator> Census<A> {
     /// Hands out the element of a single cell that no other strong handle has. Its references become
     /// loose.
     pub fn try_unwrap<E: Element>(&mut self, memory: &[E], rc: Rc) -> Result<E, Refused<Rc>>
-        ensures { TryUnwrap E.Element.refs (world A.Allocator.meaning self.old) memory.now rc result (world A.Allocator.meaning self.new) }
+        ensures { TryUnwrap E.refs (world A.meaning self.old) memory.now rc result (world A.meaning self.new) }
     {
         let x = self.hand_out(memory, rc.ticket);
         rc.spend_on(x)
@@ -25,9 +25,9 @@ impl<A: Allocator> Census<A> {
 
     /// Hands out the element of the cell of a ticket.
     fn hand_out<E: Element>(&mut self, memory: &[E], ticket: Ticket) -> Result<E, Decline>
-        ensures { Answers (wrong_memory (world A.Allocator.meaning self.old) memory.now ∷ no_rc (world A.Allocator.meaning self.old) ticket ∷ past_memory memory.now ticket.place ∷ slice_cell (world A.Allocator.meaning self.old) ticket.place ∷ not_sole (world A.Allocator.meaning self.old) ticket.place ∷ []) result
-            (λ x. Unwrapped E.Element.refs (world A.Allocator.meaning self.old) memory.now ticket.place x (world A.Allocator.meaning self.new))
-            (world A.Allocator.meaning self.new ≡ world A.Allocator.meaning self.old) }
+        ensures { Answers (wrong_memory (world A.meaning self.old) memory.now ∷ no_rc (world A.meaning self.old) ticket ∷ past_memory memory.now ticket.place ∷ slice_cell (world A.meaning self.old) ticket.place ∷ not_sole (world A.meaning self.old) ticket.place ∷ []) result
+            (λ x. Unwrapped E.refs (world A.meaning self.old) memory.now ticket.place x (world A.meaning self.new))
+            (world A.meaning self.new ≡ world A.meaning self.old) }
     {
         let x = self.check_unwrap(memory, ticket)?;
         loosen_all(&mut self.store.table, &references_of(&x));
@@ -37,7 +37,7 @@ impl<A: Allocator> Census<A> {
 
     /// The owner of the cell at `p`, whose elements have gone elsewhere, goes with its weak count.
     pub(crate) fn give_up(&mut self, p: u32)
-        ensures { world A.Allocator.meaning self.new ≡ after (world A.Allocator.meaning self.old) (closed (books (world A.Allocator.meaning self.old) none_yet) p) }
+        ensures { world A.meaning self.new ≡ after (world A.meaning self.old) (closed (books (world A.meaning self.old) none_yet) p) }
     {
         let _ = self.store.retire(p as usize);
     }

@@ -40,14 +40,14 @@ pub fn lower(table: &mut Table, r: Reference)
 
 /// Reference `j` of the elements from `from` on, four to an element.
 fn nth<E: Element>(memory: &[E], from: u32, j: u32) -> Reference
-    ensures { result ≡ nth E.Element.refs memory.now from j }
+    ensures { result ≡ nth E.refs memory.now from j }
 {
     reference_at(memory, from as usize + (j / 4) as usize, (j % 4) as usize)
 }
 
 /// Takes the first `count` references of the elements from `from` on back, the last one first.
 pub fn lower_all<E: Element>(table: &mut Table, memory: &[E], from: u32, count: u32)
-    ensures { (rows : List Counts) → overflows (nth E.Element.refs memory.now from) count rows ≡ false → counts_in table.old ≡ raised_upto (nth E.Element.refs memory.now from) count rows → counts_in table.new ≡ rows }
+    ensures { (rows : List Counts) → overflows (nth E.refs memory.now from) count rows ≡ false → counts_in table.old ≡ raised_upto (nth E.refs memory.now from) count rows → counts_in table.new ≡ rows }
 {
     for j in (0..count).rev() {
         lower(table, nth(memory, from, j));
@@ -62,7 +62,7 @@ pub fn raise_all<E: Element>(
     from: u32,
     n: u16,
 ) -> Result<(), CountFull>
-    ensures { RaisesAll (nth E.Element.refs memory.now from) (4 * n) (counts_in table.old) result (counts_in table.new) }
+    ensures { RaisesAll (nth E.refs memory.now from) (4 * n) (counts_in table.old) result (counts_in table.new) }
 {
     // By number, so that those counted before one that is full can be taken back.
     for j in 0..4 * u32::from(n) {

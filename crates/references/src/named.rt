@@ -10,7 +10,7 @@ use std::array;
 
 /// The references of an element, the missing ones empty.
 pub fn references_of<E: Element>(x: &E) -> [Reference; 4]
-    ensures { result ≡ padded (E.Element.refs x.now) }
+    ensures { result ≡ padded (E.refs x.now) }
 {
     array::from_fn(|i| x.reference(i))
 }

@@ -33,7 +33,7 @@ fn free() -> Row
     Row { counts, link: None }
 }
 
-#[tactic(auto, unfolding(crate::specs::Rows::counts_of, crate::specs::Rows::links_of))]
+#[tactic(auto, using(crate::proofs::Rows::row_steps), unfolding(crate::specs::Rows::counts_of, crate::specs::Rows::links_of))]
 impl Table {
     /// A table without cells.
     pub fn new() -> Table

@@ -42,12 +42,12 @@ standing_here rs p d h =
     let l : p < length (counts_of rs) = omega (arith, counts_length rs) in
     omega (arith, get_or-le-sum_by (λ (k : Counts). k.standing) (counts_of rs) p none l, ap (λ (k : Counts). k.standing) (counts_here rs p d h))
 
-pub standing_set : (rs : List Row) (p : ℕ) (d r : Row) → p < length rs
-    → standing_in (counts_of (set rs p r)) + (get_or rs p d).counts.standing ≡ standing_in (counts_of rs) + r.counts.standing
+pub standing_set : (rs : List Row) (p : ℕ) (d : Row) (k : Counts) → p < length rs
+    → standing_in (set (counts_of rs) p k) + (get_or rs p d).counts.standing ≡ standing_in (counts_of rs) + k.standing
 unfolding standing_in
-standing_set rs p d r h =
+standing_set rs p d k h =
     let l : p < length (counts_of rs) = omega (arith, counts_length rs) in
-    omega (arith, sum_by-set (λ (k : Counts). k.standing) (counts_of rs) p r.counts none l, ap standing_in (counts_set rs p r), ap (λ (k : Counts). k.standing) (counts_here rs p d h))
+    omega (arith, sum_by-set (λ (k : Counts). k.standing) (counts_of rs) p k none l, ap (λ (k : Counts). k.standing) (counts_here rs p d h))
 
 pub standing_bound : (rs : List Row) → small (counts_of rs) ≡ true → standing_in (counts_of rs) ≤ length rs * 65535
 unfolding small standing_in
@@ -61,3 +61,6 @@ small_set rs p r h l =
     let fits = λ (k : Counts). leb k.standing 65535 in
     let all = All-set (λ (k : Counts). fits k ≡ true) (counts_of rs) p r.counts (le-leb r.counts.standing 65535 l) (AllPass-from_list_all fits (counts_of rs) h) in
     ap small (counts_set rs p r) ∙ list_all-from_AllPass fits (set (counts_of rs) p r.counts) all
+
+-- what a table's own functions are proved with
+pub ruleset row_steps = (counts_set, links_set, counts_same, standing_here, standing_bound)

@@ -16,7 +16,7 @@ pub struct Table {
     ghost sum: { standing ≡ standing_in (counts_of rows) },
 }
 
-#[tactic(auto, unfolding(crate::specs::Rows::counts_of, crate::specs::Rows::links_of))]
+#[tactic(auto, using(crate::proofs::Rows::row_steps), unfolding(crate::specs::Rows::counts_of, crate::specs::Rows::links_of))]
 impl Table {
     /// A table without cells.
     pub fn new() -> Table

@@ -1,13 +1,14 @@
 -- What the loop keeps: whatever ends what is left to do now, ends what there was to do at first.
-use Rattle.std.proofs.Common.{◌≡◌, ℕ, ◌+◌, ◌*◌, ◌≤◌, List, [], ◌∷◌, length, sym, refl, ap, subst, Some, None, Option, arith}
+use Rattle.std.proofs.Common.{◌≡◌, ℕ, ◌+◌, ◌*◌, ◌≤◌, List, [], ◌∷◌, length, get_or, sym, refl, ap, subst, Some, None, Option, arith}
+use Rattle.std.specs.List.{sum_by}
+use Rattle.std.proofs.lemmas.List.Sums.{sum_by-le}
 use Rattle.element.specs.declared.reference.Reference.{Reference}
 use Rattle.cells.specs.Rows.{link_at}
 use Rattle.cells.specs.declared.row.Counts.{Counts}
 use Rattle.cells.specs.declared.row.Link.{Link}
 use Rattle.disposal.specs.Disposal.{World}
 use Rattle.disposal.specs.Stores.{Resting}
-use Rattle.disposal.specs.Walks.{Does, Walk, Chain, Idle, todo, total, strong_of, effort_of, effort, tally}
-use Rattle.disposal.proofs.Totals.{total_bound}
+use Rattle.disposal.specs.Walks.{Does, Walk, Chain, Idle, todo, strong_of, effort_of, effort, tally}
 
 pub record Within {E : Type 0} (refs : E → List Reference) (mem : List E) (s : Walk E) (st : List ℕ) (s' : Walk E) : Type 0 where
   pub stack : List ℕ
@@ -22,10 +23,10 @@ effort_few (Some k) = omega arith
 
 pub effort_bound : (rows : List Counts) (links : List (Option Link)) → length rows ≡ 1024 → length links ≡ 1024 → effort rows links ≤ 22000000000000
 effort_bound rows links lr ll =
-    let a = total_bound strong_of 65535 rows (λ r. omega arith) in
-    let b = total_bound effort_of 327680 links effort_few in
-    let a' = subst (λ (n : ℕ). total strong_of rows ≤ n * 65535) lr a in
-    let b' = subst (λ (n : ℕ). total effort_of links ≤ n * 327680) ll b in
+    let a = sum_by-le strong_of 65535 rows (λ i d l. omega arith) in
+    let b = sum_by-le effort_of 327680 links (λ i d l. effort_few (get_or links i d)) in
+    let a' = subst (λ (n : ℕ). sum_by strong_of rows ≤ n * 65535) lr a in
+    let b' = subst (λ (n : ℕ). sum_by effort_of links ≤ n * 327680) ll b in
     omega arith
 
 -- there is a link at the cell in hand

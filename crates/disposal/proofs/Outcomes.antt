@@ -1,5 +1,6 @@
 -- A disposal and a release end in some world, and in one only.
 use Rattle.std.proofs.Common.{◌≡◌, ℕ, zero, suc, ◌≤◌, true, false, eqb, List, [], ◌∷◌, take, drop, sym, refl, ap, subst, ⊎_elim, arith}
+use Rattle.std.specs.List.{sum_by}
 use Rattle.std.proofs.lemmas.Bool.{cases_Bool, and_parts, both_ways, eqb-true}
 use Rattle.cells.specs.Rows.{at}
 use Rattle.cells.specs.Counts.{admits_strong}
@@ -9,7 +10,7 @@ use Rattle.disposal.specs.Disposal.Disposes.{disposes}
 use Rattle.disposal.specs.Disposal.Lists.{lists_none, lists_next}
 use Rattle.disposal.specs.Disposal.Releases.{releases_none, releases_next}
 use Rattle.disposal.specs.Disposal.Release.{empty, strong_stray, strong_lowered, strong_last, weak}
-use Rattle.disposal.specs.Walks.{released, last, total, strong_of}
+use Rattle.disposal.specs.Walks.{released, last, strong_of}
 use Rattle.element.specs.declared.reference.Reference.{Reference}
 use Rattle.element.specs.declared.reference.Reference.TheVariants.{Empty, Strong, Weak}
 use Rattle.disposal.proofs.Quiet.{quiet_released, quiet_closed, begun_falls}
@@ -41,7 +42,7 @@ mutual
   one_way weak weak = refl
 
 abbrev counts : {E : Type 0} → World E → ℕ
-counts w = total strong_of w.books.rows
+counts w = sum_by strong_of w.books.rows
 
 module _ {E : Type 0} (refs : E → List Reference) (mem : List E) where
   abbrev Below : ℕ → Type 0

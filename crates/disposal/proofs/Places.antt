@@ -1,7 +1,8 @@
 -- Places of a table: its rows and links are 1024, and a cell stands at one of them.
-use Rattle.std.proofs.Common.{◌≡◌, ℕ, zero, suc, ◌<◌, ◌≤◌, true, leb, List, [], ◌∷◌, length, sym, refl, ap, ◌∙◌, ⊎_elim, arith}
+use Rattle.std.proofs.Common.{◌≡◌, ℕ, ◌<◌, ◌≤◌, true, leb, List, length, sym, refl, ap, ◌∙◌, ⊎_elim, arith}
 use Rattle.std.proofs.lemmas.List.{get_or_past}
-use Rattle.std.proofs.lemmas.Bool.{cases_lt, both_ways, and_parts, leb-true}
+use Rattle.std.proofs.lemmas.List.Sums.{AllPass-from_list_all}
+use Rattle.std.proofs.lemmas.Bool.{cases_lt, both_ways, leb-true}
 use Rattle.cells.proofs.Rows.{counts_length, links_length}
 use Rattle.cells.specs.Counts.{none, is_cell}
 use Rattle.cells.specs.Rows.{at, small}
@@ -26,12 +27,12 @@ cell_here t p k e h =
     let l = cell_within (counts_in t) p (sym (ap is_cell e) ∙ h) in
     omega arith
 
-small_at : (ks : List Counts) (p : ℕ) → small ks ≡ true → (at ks p).standing ≤ 65535
-unfolding small
-small_at [] p h = omega arith
-small_at (k ∷ ks) zero h = leb-true k.standing 65535 (and_parts (leb k.standing 65535) (small ks) h).0
-small_at (k ∷ ks) (suc p) h = small_at ks p (and_parts (leb k.standing 65535) (small ks) h).1
-
 -- 16 bits hold the elements of each cell
 pub standing_short : (t : Table) (p : ℕ) → (at (counts_in t) p).standing ≤ 65535
-standing_short t p = small_at (counts_in t) p t.few
+unfolding small
+standing_short t p =
+    let all = AllPass-from_list_all (λ (k : Counts). leb k.standing 65535) (counts_in t) t.few in
+    ⊎_elim
+    (λ l. leb-true _ _ (all p none l))
+    (λ m. omega (arith, ap (λ (k : Counts). k.standing) (get_or_past (counts_in t) p none m)))
+    (cases_lt p (length (counts_in t)))

@@ -1,5 +1,6 @@
 -- What one release or one close does to the strong counts and the receipt.
 use Rattle.std.proofs.Common.{◌≡◌, ℕ, ◌+◌, ◌-◌, ◌≤◌, Bool, true, false, cond, eqb, ltb, set, refl, arith}
+use Rattle.std.specs.List.{sum_by}
 use Rattle.blocks.specs.Meaning.{Meaning}
 use Rattle.element.specs.declared.reference.Reference.{Reference}
 use Rattle.element.specs.declared.reference.Reference.TheVariants.{Empty, Strong, Weak}
@@ -7,7 +8,7 @@ use Rattle.cells.specs.Counts.{none, admits_strong, admits_weak, with_strong, wi
 use Rattle.cells.specs.Rows.{at, standing_in}
 use Rattle.cells.specs.declared.row.Counts.{Counts}
 use Rattle.disposal.specs.Books.{Books, with_row, left_with, closed, begun, returned, sole, one_block, one_stray}
-use Rattle.disposal.specs.Walks.{released, total, strong_of, tally}
+use Rattle.disposal.specs.Walks.{released, strong_of, tally}
 use Rattle.disposal.specs.declared.store.Receipt.{Receipt}
 use Rattle.disposal.proofs.Totals.{total_falls, standing_falls}
 use Rattle.disposal.proofs.Chains.{dead_set}
@@ -15,7 +16,7 @@ use Rattle.disposal.proofs.Chains.{dead_set}
 -- no strong count rises, no element comes to stand or is listed, and one thing more is counted at most
 pub record Quiet (b b' : Books) : Type 0 where
   pub dead : (p : ℕ) → (at b.rows p).strong ≡ 0 → (at b'.rows p).strong ≡ 0
-  pub less : total strong_of b'.rows ≤ total strong_of b.rows
+  pub less : sum_by strong_of b'.rows ≤ sum_by strong_of b.rows
   pub standing : standing_in b'.rows ≤ standing_in b.rows
   pub listed : b'.receipt.listed ≡ b.receipt.listed
   pub counted : tally b'.receipt ≤ tally b.receipt + 1
@@ -78,7 +79,7 @@ quiet_released (Weak q) b =
     (quiet_same b (one_stray b.receipt) (omega arith))
 
 -- the disposal of a cell with one strong count
-pub begun_falls : (b : Books) (q : ℕ) → (at b.rows q).strong ≡ 1 → total strong_of (begun b q).rows + 1 ≤ total strong_of b.rows
+pub begun_falls : (b : Books) (q : ℕ) → (at b.rows q).strong ≡ 1 → sum_by strong_of (begun b q).rows + 1 ≤ sum_by strong_of b.rows
 begun_falls b q e =
     let h : 0 + 1 ≤ strong_of (at b.rows q) = omega arith in
     total_falls strong_of none b.rows q _ 1 refl h

@@ -1,12 +1,13 @@
 -- One turn of the walk, at each of its three kinds.
 use Rattle.std.proofs.Common.{◌≡◌, ℕ, ◌+◌, ◌<◌, ◌≤◌, ◌-◌, true, false, List, [], ◌∷◌, ◌++◌, map, length, get_or, drop, set, sym, refl, ap, ◌∙◌, subst, ap₂, ⊎_elim, Some, Option, arith}
+use Rattle.std.specs.List.{sum_by}
 use Rattle.std.proofs.lemmas.Bool.{cases_lt, cases_Bool, cond-true, cond-false, both_ways}
 use Rattle.std.proofs.lemmas.List.{get_or-set_same, length-set}
 use Rattle.cells.specs.Counts.{none}
 use Rattle.cells.specs.Rows.{at, link_at, at_rest}
 use Rattle.disposal.specs.Books.{Books, closed}
 use Rattle.disposal.specs.Disposal.{World, listing}
-use Rattle.disposal.specs.Walks.{Work, Do, Does, released, last, target, onto, disposal, Walk, Turned, Chain, Held, Away, todo, pending, total, strong_of, effort_of, fresh, reference_done, element_done, next_reference, past_reference, past_element, past_end}
+use Rattle.disposal.specs.Walks.{Work, Do, Does, released, last, target, onto, disposal, Walk, Turned, Chain, Held, Away, todo, pending, strong_of, effort_of, fresh, reference_done, element_done, next_reference, past_reference, past_element, past_end}
 use Rattle.disposal.specs.Walks.Work.{write, release, close}
 use Rattle.cells.specs.declared.row.Counts.{Counts}
 use Rattle.cells.specs.declared.row.Link.{Link}
@@ -54,7 +55,7 @@ module _ {E : Type 0} (refs : E → List Reference) (few : (x : E) → length (r
   done x ws u v rest e d r =
       subst (λ z. Does refs mem (z ++ todo refs mem links rest) (record { books = b; list = xs }) v) (sym (ap (pending refs mem p) here ∙ e)) (u, d, r)
 
-  falls : (j : Option Link) → effort_of j + 1 ≤ effort_of (Some k) → total effort_of (set links p j) + 1 ≤ total effort_of links
+  falls : (j : Option Link) → effort_of j + 1 ≤ effort_of (Some k) → sum_by effort_of (set links p j) + 1 ≤ sum_by effort_of links
   falls j h = total_falls effort_of at_rest links p j 1 refl (omega (arith, ap effort_of here))
 
   pub step_close : 4 ≤ k.reference → (k.next < k.end → k.next < length mem → ⊥)
@@ -143,7 +144,7 @@ module _ {E : Type 0} (refs : E → List Reference) (few : (x : E) → length (r
       let f = falls (Some j) fall in
       let f2 = total_rises effort_of ls q (Some new) in
       let f3 : effort_of (Some new) ≤ 327680 = omega arith in
-      let f4 : total strong_of b'.rows + 1 ≤ total strong_of b.rows = subst (λ (z : Books). total strong_of z.rows + 1 ≤ total strong_of b.rows) (sym lb.0) (begun_falls b q lb.1) in
+      let f4 : sum_by strong_of b'.rows + 1 ≤ sum_by strong_of b.rows = subst (λ (z : Books). sum_by strong_of z.rows + 1 ≤ sum_by strong_of b.rows) (sym lb.0) (begun_falls b q lb.1) in
       let q1 = strong_within b.rows q lb.1 in
       let q2 : q < length ls = omega (arith, length-set links p (Some j)) in
       let pos : 0 < (at b.rows q).strong = omega (arith, lb.1) in

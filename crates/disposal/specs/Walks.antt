@@ -1,6 +1,6 @@
 -- How the walk is read while it goes on: its links, the work that they leave, and what a turn does.
 use Rattle.std.specs.Prelude.{◌≡◌, ℕ, ◌+◌, ◌-◌, ◌*◌, ◌^◌, ◌<◌, ◌≤◌, min, Bool, false, cond, ◌&&◌, ◌≢◌, List, [], ◌∷◌, ◌++◌, map, take, drop, Some, None, Option, ◌==◌, slice_index_or, slice_set}
-use Rattle.std.specs.List.{flat_map}
+use Rattle.std.specs.List.{flat_map, sum_by}
 use Rattle.blocks.specs.Meaning.{Meaning}
 use Rattle.element.specs.declared.reference.Reference.{Reference}
 use Rattle.element.specs.declared.reference.Reference.TheVariants.{Empty, Strong, Weak}
@@ -148,10 +148,6 @@ stack_of (Some p) = p ∷ []
 
 -- A number that falls with each turn
 
-abbrev pub total : {X : Type 0} → (X → ℕ) → List X → ℕ
-total f [] = 0
-total f (x ∷ xs) = f x + total f xs
-
 abbrev pub strong_of : Counts → ℕ
 strong_of k = min k.strong 65535
 
@@ -160,7 +156,7 @@ effort_of None = 0
 effort_of (Some k) = min (5 * (k.end - k.next) + (5 - k.reference)) 327680
 
 abbrev pub effort : List Counts → List (Option Link) → ℕ
-effort rows links = 327681 * total strong_of rows + total effort_of links
+effort rows links = 327681 * sum_by strong_of rows + sum_by effort_of links
 
 -- A turn
 

@@ -1,7 +1,7 @@
 use Rattle.std.proofs.Common.{◌<◌, length, sym, refl, ap, ◌∙◌, arith}
 use Rattle.std.proofs.lemmas.List.{length-set}
 use Rattle.cells.specs.Rows.{small, standing_in}
-use Rattle.cells.proofs.Rows.{counts_same, links_set}
+use Rattle.cells.proofs.Rows.{counts_same}
 use Rattle.cells.proofs.table.Table.relink.Goals as goal
 
 pub invariant_of-self : goal.invariant_of-self
@@ -11,10 +11,3 @@ invariant_of-self c =
     let l : c.args.p < length table.rows = omega arith in
     let same = counts_same table.rows c.args.p _ _ l refl in
     record { full = length-set table.rows c.args.p _ ∙ full; few = ap small same ∙ table.few; sum = table.sum ∙ sym (ap standing_in same) }
-
-pub returns-then-p-lt1024 : goal.returns-then-p-lt1024
-returns-then-p-lt1024 c =
-    let table = c.args.self.now in
-    let full = table.full in
-    let l : c.args.p < length table.rows = omega arith in
-    record { counts = counts_same table.rows c.args.p _ _ l refl; links = links_set table.rows c.args.p _ }

@@ -1,9 +1,9 @@
 -- What a list of blocks is after one is put in or taken out.
-use Rattle.std.specs.Prelude.{◌≡◌, ℕ, ◌+◌, ◌<◌, ◌≤◌, true, false, List, [], ◌∷◌, length, ◌≢◌, refl}
+use Rattle.std.specs.Prelude.{◌≡◌, ℕ, ◌+◌, ◌<◌, ◌≤◌, true, List, [], ◌∷◌, length, refl}
 use Rattle.std.proofs.Common.{arith}
 use Rattle.std.proofs.lemmas.Grind.{common_steps}
 use Rattle.blocks.specs.declared.block.Block.{Block}
-use Rattle.blocks.specs.Blocks.{Apart, total, same, member, insert, remove, clear}
+use Rattle.blocks.specs.Blocks.{Apart, total, member, insert, remove, clear}
 
 pub total_insert : (x : Block) (bs : List Block) → total (insert x bs) ≡ x.len + total bs
 total_insert x [] = refl

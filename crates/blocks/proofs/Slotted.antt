@@ -10,10 +10,10 @@ unfolding slots_out
 slots_none unit at zero = refl
 slots_none unit at (suc n) = slots_none unit (at + unit) n
 
-pub getD_zeros : (n k : ℕ) → get_or {A = ℕ} (replicate n 0) k 0 ≡ 0
-getD_zeros zero k = refl
-getD_zeros (suc n) zero = refl
-getD_zeros (suc n) (suc k) = getD_zeros n k
+pub get_or-zeros : (n k : ℕ) → get_or {A = ℕ} (replicate n 0) k 0 ≡ 0
+get_or-zeros zero k = refl
+get_or-zeros (suc n) zero = refl
+get_or-zeros (suc n) (suc k) = get_or-zeros n k
 
 -- a slot is clear when it is free
 later_clear : (unit at p n : ℕ) (ss : List ℕ) → p + n ≤ at → clear p n (slots_out unit at ss) ≡ true

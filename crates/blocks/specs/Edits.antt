@@ -43,10 +43,12 @@ apart_lower extent low from (b ∷ bs) l a = let a0 = a.0 in (omega arith, a.1, 
 pub apart_remove : (extent from : ℕ) (x : Block) (bs : List Block) → Apart extent from bs
     → Apart extent from (remove x bs)
 apart_remove extent from x [] a = a
-apart_remove extent from x (b ∷ bs) a = grind (arith, common_steps, apart_lower extent from (b.offset + b.len) bs, apart_remove extent (b.offset + b.len) x bs)
+apart_remove extent from x (b ∷ bs) a =
+    grind (arith, common_steps, apart_lower extent from (b.offset + b.len) bs, apart_remove extent (b.offset + b.len) x bs)
 
 pub apart_insert : (extent from : ℕ) (x : Block) (bs : List Block) → 0 < x.len → from ≤ x.offset
     → x.offset + x.len ≤ extent
     → clear x.offset x.len bs ≡ true → Apart extent from bs → Apart extent from (insert x bs)
 apart_insert extent from x [] some low high free a = (low, some, high)
-apart_insert extent from x (b ∷ bs) some low high free a = grind (arith, common_steps, apart_insert extent (b.offset + b.len) x bs)
+apart_insert extent from x (b ∷ bs) some low high free a =
+    grind (arith, common_steps, apart_insert extent (b.offset + b.len) x bs)

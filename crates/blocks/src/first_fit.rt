@@ -13,11 +13,13 @@ use crate::block::{Block, Decline};
 use crate::gaps::{Gap, lowest_gap};
 use arrayvec::ArrayVec;
 
+const LINES: usize = 512;
+
 /// An allocator that hands out the lowest gap, and keeps a line for each of up to 512 blocks out.
 #[derive(Drop)]
 pub struct FirstFit {
     extent: usize,
-    table: ArrayVec<Block, 512>,
+    table: ArrayVec<Block, LINES>,
     used: usize,
     ghost size: { (1 ≤ extent) × (extent ≤ 1024) },
     ghost apart: { Apart extent 0 table.items } by { apart_prop extent 0 table.items },

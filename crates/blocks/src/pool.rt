@@ -54,6 +54,7 @@ impl Pool {
     fn slot_of(&self, offset: usize, n: usize) -> Option<usize>
         ensures { SlotOf self.now.unit self.now.slots.lens offset n result }
     {
+        // Named before the test: with `%` or a call inside it, or with `then_some`, the `None` needs a longer proof.
         let k = offset / self.unit;
         let past = offset % self.unit;
         let held = self.slots.get(k) as usize;

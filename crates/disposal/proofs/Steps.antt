@@ -107,12 +107,16 @@ module _ {E : Type 0} (refs : E → List Reference) (few : (x : E) → length (r
         counted = omega arith;
       })
 
-  step_held : k.reference < 4 → last (next_reference refs mem k) b ≡ false
-      → Turned refs mem (walk b xs links (Some p)) (walk (released (next_reference refs mem k) b) xs (set links p (Some (reference_done k))) (Some p))
+  -- the next reference, and the link past it
+  abbrev r : Reference
+  r = next_reference refs mem k
+
+  abbrev j : Link
+  j = reference_done k
+
+  step_held : k.reference < 4 → last r b ≡ false → Turned refs mem (walk b xs links (Some p)) (walk (released r b) xs (set links p (Some j)) (Some p))
   step_held open_still e =
       from_top _ b.rows links p k here (λ rest held apart below.
-      let r = next_reference refs mem k in
-      let j = reference_done k in
       let q = quiet_released r b in
       let s1 = held.short in
       let fall : effort_of (Some j) + 1 ≤ effort_of (Some k) = omega arith in
@@ -136,15 +140,11 @@ module _ {E : Type 0} (refs : E → List Reference) (few : (x : E) → length (r
         counted = q.counted;
       })
 
-  step_dies : length b.rows ≡ 1024 → length links ≡ 1024 → k.reference < 4 → last (next_reference refs mem k) b ≡ true
-      → ((q : ℕ) → (at b.rows q).standing ≤ 65535)
-      → let r = next_reference refs mem k in
-      Turned refs mem (walk b xs links (Some p))
-      (walk (released r b) xs (set (set links p (Some (reference_done k))) (target r) (Some (fresh (target r) (at b.rows (target r)).standing (Some p)))) (Some (target r)))
+  step_dies : length b.rows ≡ 1024 → length links ≡ 1024 → k.reference < 4 → last r b ≡ true → ((q : ℕ) → (at b.rows q).standing ≤ 65535)
+      → let new = fresh (target r) (at b.rows (target r)).standing (Some p) in
+      Turned refs mem (walk b xs links (Some p)) (walk (released r b) xs (set (set links p (Some j)) (target r) (Some new)) (Some (target r)))
   step_dies lr ll open_still e short =
       from_top _ b.rows links p k here (λ rest held apart below.
-      let r = next_reference refs mem k in
-      let j = reference_done k in
       let q = target r in
       let n = (at b.rows q).standing in
       let few-standing = short q in
@@ -158,16 +158,19 @@ module _ {E : Type 0} (refs : E → List Reference) (few : (x : E) → length (r
       let f = falls (Some j) fall in
       let f2 = total_rises effort_of ls q (Some new) in
       let f3 : effort_of (Some new) ≤ 327680 = omega arith in
-      let f4 : sum_by strong_of b'.rows + 1 ≤ sum_by strong_of b.rows = subst (λ (z : Books). sum_by strong_of z.rows + 1 ≤ sum_by strong_of b.rows) (sym lb.0) (begun_falls b q lb.1) in
+      let f4 : sum_by strong_of b'.rows + 1 ≤ sum_by strong_of b.rows =
+      subst (λ (z : Books). sum_by strong_of z.rows + 1 ≤ sum_by strong_of b.rows) (sym lb.0) (begun_falls b q lb.1) in
       let q1 = strong_within b.rows q lb.1 in
       let q2 : q < length ls = omega (arith, length-set links p (Some j)) in
       let pos : 0 < (at b.rows q).strong = omega (arith, lb.1) in
       let aw = away b.rows links q pos (Some p) (p ∷ rest) (k, refl, held, apart, below) in
       let c1 = advance b.rows b'.rows links p k j rest u.dead refl (omega arith) (omega arith) held apart below in
-      let dead : (at b'.rows q).strong ≡ 0 = ap (λ (z : Books). (at z.rows q).strong) lb.0 ∙ ap (λ (z : Counts). z.strong) (get_or-set_same b.rows q _ none q1) in
+      let dead : (at b'.rows q).strong ≡ 0 =
+      ap (λ (z : Books). (at z.rows q).strong) lb.0 ∙ ap (λ (z : Counts). z.strong) (get_or-set_same b.rows q _ none q1) in
       let rest_of = todo refs mem links rest in
-      let more : k.reference < length (get_or (map refs mem) (k.next - 1) []) =
-      ⊎_elim (λ m. m) (λ m. absurd (both_ways (last r b) (ap (λ z. last z b) (pending_none refs mem p k m).1) e)) (cases_lt k.reference (length (get_or (map refs mem) (k.next - 1) []))) in
+      let held_refs = get_or (map refs mem) (k.next - 1) [] in
+      let more : k.reference < length held_refs =
+      ⊎_elim (λ m. m) (λ m. absurd (both_ways (last r b) (ap (λ z. last z b) (pending_none refs mem p k m).1) e)) (cases_lt k.reference (length held_refs)) in
       record {
         stack = q ∷ p ∷ rest;
         chain = (
@@ -188,12 +191,10 @@ module _ {E : Type 0} (refs : E → List Reference) (few : (x : E) → length (r
         counted = u.counted;
       })
 
-  pub step_reference : length b.rows ≡ 1024 → length links ≡ 1024 → k.reference < 4
-      → ((q : ℕ) → (at b.rows q).standing ≤ 65535)
-      → let r = next_reference refs mem k in
-      Turned refs mem (walk b xs links (Some p)) (walk (released r b) xs (past_reference r b links p k) (onto r b (Some p)))
+  pub step_reference : length b.rows ≡ 1024 → length links ≡ 1024 → k.reference < 4 → ((q : ℕ) → (at b.rows q).standing ≤ 65535)
+      → Turned refs mem (walk b xs links (Some p)) (walk (released r b) xs (past_reference r b links p k) (onto r b (Some p)))
   step_reference lr ll open_still short =
       ⊎_elim
       (λ e. turned_at _ _ _ _ _ _ _ _ refl refl (cond-true _ _ _ e) (cond-true _ _ _ e) (step_dies lr ll open_still e short))
       (λ e. turned_at _ _ _ _ _ _ _ _ refl refl (cond-false _ _ _ e) (cond-false _ _ _ e) (step_held open_still e))
-      (cases_Bool (last (next_reference refs mem k) b))
+      (cases_Bool (last r b))

@@ -10,7 +10,7 @@ use crate::row::{Counts, Link};
 #[derive(Clone, Copy)]
 pub struct Cell {
     pub counts: Counts,
-    /// None where no disposal goes on.
+    /// Where its disposal has come to; none at rest.
     pub link: Option<Link>,
     ghost sound: { is_cell counts ≡ true },
 }

@@ -58,7 +58,7 @@ pub struct Link {
 #[derive(Clone, Copy)]
 pub struct Row {
     pub counts: Counts,
-    /// None where no disposal goes on.
+    /// Where its disposal has come to; none at rest.
     pub link: Option<Link>,
 }
 

@@ -50,8 +50,9 @@ impl Table {
         ensures links { links_of self.new.rows ≡ slice_set (links_of self.old.rows) p row.link }
     {
         if p < 1024 {
-            let old = self.rows[p].counts.standing;
-            self.rows[p] = row;
+            let place = &mut self.rows[p];
+            let old = place.counts.standing;
+            *place = row;
             self.standing = self.standing - usize::from(old) + usize::from(row.counts.standing);
         }
     }
@@ -71,7 +72,8 @@ impl Table {
         ensures links { links_of self.new.rows ≡ slice_set (links_of self.old.rows) p link }
     {
         if p < 1024 {
-            self.rows[p].link = link;
+            let row = &mut self.rows[p];
+            row.link = link;
         }
     }
 }

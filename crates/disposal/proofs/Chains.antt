@@ -1,8 +1,9 @@
 -- The stack of the cells under disposal, as links and rows change.
 use Rattle.std.proofs.Common.{◌≡◌, ℕ, zero, suc, ◌<◌, ◌≤◌, ◌≢◌, List, [], ◌∷◌, ◌++◌, length, set, sym, refl, ap, ◌∙◌, subst, subst₂, ⊎_elim, Some, Option, arith}
-use Rattle.std.proofs.lemmas.List.{get_or-set_other, get_or-set_same, get_or_past}
-use Rattle.std.proofs.lemmas.Bool.{cases_eq, cases_lt}
+use Rattle.std.proofs.lemmas.List.{get_or-set_other, get_or-set_same}
+use Rattle.std.proofs.lemmas.Bool.{cases_eq}
 use Rattle.cells.specs.Rows.{at, link_at, at_rest}
+use Rattle.disposal.proofs.Places.{within}
 use Rattle.disposal.specs.Walks.{Chain, Away, Held, Idle, todo, pending}
 use Rattle.cells.specs.declared.row.Counts.{Counts}
 use Rattle.cells.specs.declared.row.Link.{Link}
@@ -20,7 +21,7 @@ pub link_other : (links : List (Option Link)) (p q : ℕ) (k : Option Link) → 
 link_other links p q k ne = get_or-set_other links p q k at_rest ne
 
 pub link_within : (links : List (Option Link)) (p : ℕ) (k : Link) → link_at links p ≡ Some k → p < length links
-link_within links p k here = ⊎_elim (λ h. h) (λ h. let e = get_or_past links p at_rest h in absurd (cc)) (cases_lt p (length links))
+link_within links p k here = within at_rest links p (λ z. cc)
 
 pub chain_link : (rows : List Counts) (links : List (Option Link)) (p : ℕ) (k : Option Link) (from : Option ℕ) (st : List ℕ)
     → Away p st → Chain rows links from st → Chain rows (set links p k) from st

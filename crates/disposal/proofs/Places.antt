@@ -1,5 +1,5 @@
 -- Places of a table: its rows and links are 1024, and a cell stands at one of them.
-use Rattle.std.proofs.Common.{◌≡◌, ℕ, ◌<◌, ◌≤◌, true, leb, List, length, sym, refl, ap, ◌∙◌, ⊎_elim, arith}
+use Rattle.std.proofs.Common.{◌≡◌, ℕ, ◌<◌, ◌≤◌, true, leb, List, length, get_or, sym, refl, ap, ◌∙◌, ⊎_elim, arith}
 use Rattle.std.proofs.lemmas.List.{get_or_past}
 use Rattle.std.proofs.lemmas.List.Sums.{AllPass-from_list_all}
 use Rattle.std.proofs.lemmas.Bool.{cases_lt, both_ways, leb-true}
@@ -16,15 +16,15 @@ rows_full t = counts_length t.rows ∙ t.full
 pub links_full : (t : Table) → length (links_in t) ≡ 1024
 links_full t = links_length t.rows ∙ t.full
 
-cell_within : (ks : List Counts) (p : ℕ) → is_cell (at ks p) ≡ true → p < length ks
-cell_within ks p e =
-    ⊎_elim (λ h. h) (λ h. absurd (both_ways (is_cell none) refl (sym (ap is_cell (get_or_past ks p none h)) ∙ e))) (cases_lt p (length ks))
+-- what stands nowhere past the end stands at a place
+pub within : {X : Type 0} (d : X) (xs : List X) (p : ℕ) → (get_or xs p d ≡ d → ⊥) → p < length xs
+within d xs p n = ⊎_elim (λ h. h) (λ h. absurd (n (get_or_past xs p d h))) (cases_lt p (length xs))
 
 -- a row of the table that is a cell
 pub cell_here : (t : Table) (p : ℕ) (k : Counts) → k ≡ at (counts_in t) p → is_cell k ≡ true → p < 1024
 cell_here t p k e h =
     let full = rows_full t in
-    let l = cell_within (counts_in t) p (sym (ap is_cell e) ∙ h) in
+    let l = within none (counts_in t) p (λ z. both_ways (is_cell none) refl (sym (ap is_cell (e ∙ z)) ∙ h)) in
     omega arith
 
 -- 16 bits hold the elements of each cell

@@ -24,15 +24,16 @@ use Rattle.disposal.proofs.Splits.{does_disposal, one_release, last_release}
 use Rattle.disposal.proofs.Strong.{last_begun, strong_within}
 
 -- from the world w, whose links are `links`: a walk from here on ends in a world v with R v
-pub record Started {E : Type 0} (refs : E → List Reference) (mem : List E) (R : World E → Type 0) (w : World E) (links : List (Option Link)) (b : Books) (ls : List (Option Link)) (from : Option ℕ) : Type 0 where
+pub record Started {E : Type 0} (refs : E → List Reference) (mem : List E) (R : World E → Type 0) (w : World E) (links : List (Option Link))
+    (b : Books) (ls : List (Option Link)) (from : Option ℕ) : Type 0 where
   pub chain : Chain b.rows ls from (stack_of from)
   pub ends : (v : World E) → Does refs mem (todo refs mem ls (stack_of from)) (with_books w b) v → R v
   pub idle : Resting links → Idle ls (stack_of from)
   pub counted : tally b.receipt ≤ tally w.books.receipt + 1
 
 -- in a full table, with cells of as many elements as 16 bits hold
-module _ {E : Type 0} (refs : E → List Reference) (few : (x : E) → length (refs x) ≤ 4) (mem : List E) (w : World E) (links : List (Option Link))
-    (lr : length w.books.rows ≡ 1024) (ll : length links ≡ 1024) (short : (q : ℕ) → (at w.books.rows q).standing ≤ 65535) where
+module _ {E : Type 0} (refs : E → List Reference) (few : (x : E) → length (refs x) ≤ 4) (mem : List E)
+    (w : World E) (links : List (Option Link)) (lr : length w.books.rows ≡ 1024) (ll : length links ≡ 1024) (short : (q : ℕ) → (at w.books.rows q).standing ≤ 65535) where
   -- the disposal of the cell at p has begun, and it is the only one
   first : (R : World E → Type 0) (p : ℕ) → p < 1024
       → ((v : World E) → Does refs mem (disposal refs mem p (at w.books.rows p).standing) (with_books w (begun w.books p)) v → R v)
@@ -44,7 +45,8 @@ module _ {E : Type 0} (refs : E → List Reference) (few : (x : E) → length (r
       let s = short p in
       let k = fresh p n None in
       let here = get_or-set_same links p (Some k) at_rest l in
-      let dead : (at (begun w.books p).rows p).strong ≡ 0 = ap (λ (z : Counts). z.strong) (get_or-set_same w.books.rows p (dying (at w.books.rows p)) none m) in
+      let dead : (at (begun w.books p).rows p).strong ≡ 0 =
+      ap (λ (z : Counts). z.strong) (get_or-set_same w.books.rows p (dying (at w.books.rows p)) none m) in
       let work = append-nil _ ∙ ap (pending refs mem p) here ∙ pending_fresh refs few mem p n None in
       record {
         chain = (k, refl, record { here = here; dead = dead; open_still = omega arith; short = omega arith }, tt, refl);
@@ -53,7 +55,10 @@ module _ {E : Type 0} (refs : E → List Reference) (few : (x : E) → length (r
         counted = omega arith;
       }
 
-  released_from : (r : Reference) → Started refs mem (Release refs mem r w) w links (released r w.books) (entered r w.books links None) (onto r w.books None)
+  abbrev Releasing : Reference → Books → List (Option Link) → Option ℕ → Type 0
+  Releasing r = Started refs mem (Release refs mem r w) w links
+
+  released_from : (r : Reference) → Releasing r (released r w.books) (entered r w.books links None) (onto r w.books None)
   released_from r =
       ⊎_elim
       (λ e.
@@ -61,10 +66,11 @@ module _ {E : Type 0} (refs : E → List Reference) (few : (x : E) → length (r
       let b = last_begun r w.books e in
       let within = strong_within w.books.rows q b.1 in
       let here : q < 1024 = omega arith in
-      subst₃ (λ (z : Books) (ls : List (Option Link)) (from : Option ℕ). Started refs mem (Release refs mem r w) w links z ls from) (sym b.0) (sym (cond-true _ _ _ e)) (sym (cond-true _ _ _ e))
-      (first (Release refs mem r w) q here (λ v d. last_release refs mem r w v e (subst (λ z. Does refs mem (disposal refs mem q (at w.books.rows q).standing) (with_books w z) v) (sym b.0) d))))
+      let ends = λ (v : World E) (d : Does refs mem (disposal refs mem q (at w.books.rows q).standing) (with_books w (begun w.books q)) v).
+      last_release refs mem r w v e (subst (λ z. Does refs mem (disposal refs mem q (at w.books.rows q).standing) (with_books w z) v) (sym b.0) d) in
+      subst₃ (Releasing r) (sym b.0) (sym (cond-true _ _ _ e)) (sym (cond-true _ _ _ e)) (first (Release refs mem r w) q here ends))
       (λ e.
-      subst₃ (λ (z : Books) (ls : List (Option Link)) (from : Option ℕ). Started refs mem (Release refs mem r w) w links z ls from) refl (sym (cond-false _ _ _ e)) (sym (cond-false _ _ _ e))
+      subst₃ (Releasing r) refl (sym (cond-false _ _ _ e)) (sym (cond-false _ _ _ e))
       (record {
         chain = refl;
         ends = λ v d. subst (Release refs mem r w) (sym d) (one_release refs mem r w e);
@@ -86,29 +92,33 @@ pub nothing : (t : Receipt) → (t.listed ≡ 0) × ((t.cells ≡ 0) × ((t.bloc
 nothing t z = λ i. record { listed = z.0 i; cells = z.1.0 i; blocks = z.1.1.0 i; strays = z.1.1.1 i }
 
 -- the disposal of a cell on its own, where it begins
-pub alone : {A E : Type 0} (m : A → Meaning) (refs : E → List Reference) (few : (x : E) → length (refs x) ≤ 4) (mem xs : List E) (p q : ℕ) (s s' : Store A) (t t' : Receipt)
+pub alone : {A E : Type 0} (m : A → Meaning) (refs : E → List Reference) (few : (x : E) → length (refs x) ≤ 4) (mem xs : List E)
+    (p q : ℕ) (s s' : Store A) (t t' : Receipt)
     → let only = sole (at (counts_in s.table) p) in
     books_of m s' t' ≡ cond only (begun (books_of m s t) p) (books_of m s t)
     → links_in s'.table ≡ cond only (set (links_in s.table) p (Some (fresh p (at (counts_in s.table) p).standing None))) (links_in s.table)
     → Some q ≡ cond only (Some p) None
-    → let w = world_of m s t xs in Started refs mem (Abandons refs mem p w) w (links_in s.table) (books_of m s' t') (links_in s'.table) (Some q)
+    → let w = world_of m s t xs in
+    Started refs mem (Abandons refs mem p w) w (links_in s.table) (books_of m s' t') (links_in s'.table) (Some q)
 alone m refs few mem xs p q s s' t t' eb el ep =
     let w = world_of m s t xs in
     let k = at (counts_in s.table) p in
     let only = begun_some (sole k) q p ep in
     let here = cell_here s.table p k refl (and_parts (is_cell k) (last_owner k) only).0 in
-    subst₃ (λ (b : Books) (ls : List (Option Link)) (from : Option ℕ). Started refs mem (Abandons refs mem p w) w (links_in s.table) b ls from)
+    subst₃ (Started refs mem (Abandons refs mem p w) w (links_in s.table))
     (sym (eb ∙ cond-true _ _ _ only)) (sym (el ∙ cond-true _ _ _ only)) (sym (ep ∙ cond-true _ _ _ only))
     (first refs few mem w (links_in s.table) (rows_full s.table) (links_full s.table) (standing_short s.table) (Abandons refs mem p w) p here
     (λ v d. when_from (sole k) _ _ only (does_disposal refs mem p w v d)))
 
 -- the release of a reference
-pub started : {A E : Type 0} (m : A → Meaning) (refs : E → List Reference) (few : (x : E) → length (refs x) ≤ 4) (mem xs : List E) (r : Reference) (s s' : Store A) (t t' : Receipt) (from : Option ℕ)
+pub started : {A E : Type 0} (m : A → Meaning) (refs : E → List Reference) (few : (x : E) → length (refs x) ≤ 4) (mem xs : List E)
+    (r : Reference) (s s' : Store A) (t t' : Receipt) (from : Option ℕ)
     → books_of m s' t' ≡ released r (books_of m s t)
     → links_in s'.table ≡ entered r (books_of m s t) (links_in s.table) None
     → from ≡ onto r (books_of m s t) None
-    → let w = world_of m s t xs in Started refs mem (Release refs mem r w) w (links_in s.table) (books_of m s' t') (links_in s'.table) from
+    → let w = world_of m s t xs in
+    Started refs mem (Release refs mem r w) w (links_in s.table) (books_of m s' t') (links_in s'.table) from
 started m refs few mem xs r s s' t t' from eb el ep =
     let w = world_of m s t xs in
-    subst₃ (λ (b : Books) (ls : List (Option Link)) (from : Option ℕ). Started refs mem (Release refs mem r w) w (links_in s.table) b ls from) (sym eb) (sym el) (sym ep)
+    subst₃ (Started refs mem (Release refs mem r w) w (links_in s.table)) (sym eb) (sym el) (sym ep)
     (released_from refs few mem w (links_in s.table) (rows_full s.table) (links_full s.table) (standing_short s.table) r)

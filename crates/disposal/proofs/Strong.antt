@@ -1,7 +1,6 @@
 -- A strong handle that goes, and the cell that dies by the last one.
-use Rattle.std.proofs.Common.{◌≡◌, ℕ, ◌-◌, ◌<◌, true, false, eqb, ltb, List, length, refl, ap, ◌∙◌, ⊎_elim, arith}
-use Rattle.std.proofs.lemmas.List.{get_or_past}
-use Rattle.std.proofs.lemmas.Bool.{and_parts, and_from, and_right, cond-true, eqb-true, eq-eqb, ne_eqb, ltb-true, le-leb, both_ways, cases_lt}
+use Rattle.std.proofs.Common.{◌≡◌, ℕ, ◌-◌, ◌<◌, true, false, eqb, ltb, List, length, refl, ap, ◌∙◌, arith}
+use Rattle.std.proofs.lemmas.Bool.{and_parts, and_from, and_right, cond-true, eqb-true, eq-eqb, ne_eqb, ltb-true, le-leb, both_ways}
 use Rattle.element.specs.declared.reference.Reference.{Reference}
 use Rattle.element.specs.declared.reference.Reference.TheVariants.{Empty, Strong, Weak}
 use Rattle.cells.specs.Counts.{none, owns, owner, taken, is_cell, admits_strong, with_strong}
@@ -10,6 +9,7 @@ use Rattle.cells.specs.declared.row.Counts.{Counts}
 use Rattle.cells.specs.declared.row.State.{State}
 use Rattle.cells.specs.declared.row.State.TheVariants.{Free, Counted, Unique, Cyclic, Building, Disposing}
 use Rattle.disposal.specs.Books.{Books, sole, begun}
+use Rattle.disposal.proofs.Places.{within}
 use Rattle.disposal.specs.Walks.{released, last, target}
 
 owned : (s : State) → taken s ≡ true → owns s 1 ≡ 1
@@ -50,7 +50,4 @@ last_begun (Strong q) b e =
 last_begun (Weak q) b e = absurd (both_ways false refl e)
 
 pub strong_within : (rows : List Counts) (q : ℕ) → (at rows q).strong ≡ 1 → q < length rows
-strong_within rows q e =
-    ⊎_elim (λ h. h)
-    (λ h. let z : (at rows q).strong ≡ 0 = ap (λ (k : Counts). k.strong) (get_or_past rows q none h) in absurd (omega arith))
-    (cases_lt q (length rows))
+strong_within rows q e = within none rows q (λ z. let s : (at rows q).strong ≡ 0 = ap (λ (k : Counts). k.strong) z in omega arith)

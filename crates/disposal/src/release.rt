@@ -5,12 +5,29 @@ ghost use Rattle.cells.specs.Tables.{links_in};
 ghost use Rattle.disposal.specs.Books.{none_yet, closed, weak_released};
 ghost use Rattle.disposal.specs.Disposal.{Release, Abandons};
 ghost use Rattle.disposal.specs.Stores.{books_of, world_of, Resting};
+ghost use Rattle.disposal.specs.Walks.{tally};
 
 use crate::store::{Receipt, Store};
 use blocks::Allocator;
 use element::{Element, Reference};
 
 impl<A: Allocator> Store<A> {
+    /// Releases `r`, and walks until no cell is under disposal.
+    fn settle<E: Element>(
+        &mut self,
+        memory: &[E],
+        list: &mut [E],
+        r: Reference,
+        receipt: &mut Receipt,
+    )
+        requires { tally receipt.old ≡ 0 }
+        ensures release { Release E.Element.refs memory.now r (world_of A.Allocator.meaning self.old receipt.old list.old) (world_of A.Allocator.meaning self.new receipt.new list.new) }
+        ensures links { Resting (links_in self.old.table) → Resting (links_in self.new.table) }
+    {
+        let place = self.lower(r, None, receipt);
+        self.walk(memory, list, place, receipt);
+    }
+
     /// Releases `r`. The elements of the cells that die by it are written to the list, in the order
     /// in which they go; those that it has no place for are counted only.
     pub fn release<E: Element>(&mut self, memory: &[E], list: &mut [E], r: Reference) -> Receipt
@@ -18,8 +35,7 @@ impl<A: Allocator> Store<A> {
         ensures links { Resting (links_in self.old.table) → Resting (links_in self.new.table) }
     {
         let mut receipt = Receipt::default();
-        let place = self.lower(r, None, &mut receipt);
-        self.walk(memory, list, place, &mut receipt);
+        self.settle(memory, list, r, &mut receipt);
         receipt
     }
 

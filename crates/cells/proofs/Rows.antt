@@ -59,8 +59,9 @@ pub small_set : (rs : List Row) (p : ℕ) (r : Row) → small (counts_of rs) ≡
 unfolding small
 small_set rs p r h l =
     let fits = λ (k : Counts). leb k.standing 65535 in
-    let all = All-set (λ (k : Counts). fits k ≡ true) (counts_of rs) p r.counts (le-leb r.counts.standing 65535 l) (AllPass-from_list_all fits (counts_of rs) h) in
-    ap small (counts_set rs p r) ∙ list_all-from_AllPass fits (set (counts_of rs) p r.counts) all
+    let all = AllPass-from_list_all fits (counts_of rs) h in
+    let all' = All-set (λ (k : Counts). fits k ≡ true) (counts_of rs) p r.counts (le-leb r.counts.standing 65535 l) all in
+    ap small (counts_set rs p r) ∙ list_all-from_AllPass fits (set (counts_of rs) p r.counts) all'
 
 -- what a table's own functions are proved with
 pub ruleset row_steps = (counts_set, links_set, counts_same, standing_here, standing_bound)

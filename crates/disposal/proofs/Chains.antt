@@ -46,7 +46,8 @@ chain_rows rows rows' links f from (q ∷ st) c = (
 )
 
 -- a cell with a strong count is not on the stack
-pub away : (rows : List Counts) (links : List (Option Link)) (p : ℕ) → 0 < (at rows p).strong → (from : Option ℕ) (st : List ℕ) → Chain rows links from st → Away p st
+pub away : (rows : List Counts) (links : List (Option Link)) (p : ℕ) → 0 < (at rows p).strong
+    → (from : Option ℕ) (st : List ℕ) → Chain rows links from st → Away p st
 away rows links p h from [] c = tt
 away rows links p h from (q ∷ st) c = (
   (λ e. let z : (at rows p).strong ≡ 0 = subst (λ (n : ℕ). (at rows n).strong ≡ 0) e c.2.dead in omega arith),

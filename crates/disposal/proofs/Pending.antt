@@ -28,7 +28,8 @@ pending_refs refs few mem p k h =
     let l : length (get_or (map refs mem) (k.next - 1) []) ≤ k.reference = omega arith in
     ap (λ rs. map release rs ++ (flat_map (works refs) (take (k.end - k.next) (drop k.next mem)) ++ (close p ∷ []))) (drop_all k.reference _ l)
 
-pub pending_fresh : {E : Type 0} (refs : E → List Reference) (few : (x : E) → length (refs x) ≤ 4) (mem : List E) (q n : ℕ) (back : Option ℕ) → pending refs mem q (Some (fresh q n back)) ≡ disposal refs mem q n
+pub pending_fresh : {E : Type 0} (refs : E → List Reference) (few : (x : E) → length (refs x) ≤ 4) (mem : List E) (q n : ℕ) (back : Option ℕ)
+    → pending refs mem q (Some (fresh q n back)) ≡ disposal refs mem q n
 pending_fresh refs few mem q n back =
     let e : q + n - q ≡ n = omega arith in
     pending_refs refs few mem q (fresh q n back) (omega arith) ∙ ap (λ m. flat_map (works refs) (take m (drop q mem)) ++ (close q ∷ [])) e

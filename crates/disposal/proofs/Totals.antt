@@ -9,7 +9,8 @@ use Rattle.cells.specs.Rows.{at, standing_in}
 use Rattle.cells.specs.declared.row.Counts.{Counts}
 
 -- one place falls by n
-pub total_falls : {X : Type 0} (f : X → ℕ) (d : X) (xs : List X) (q : ℕ) (y : X) (n : ℕ) → f d ≡ 0 → f y + n ≤ f (get_or xs q d) → sum_by f (set xs q y) + n ≤ sum_by f xs
+pub total_falls : {X : Type 0} (f : X → ℕ) (d : X) (xs : List X) (q : ℕ) (y : X) (n : ℕ)
+    → f d ≡ 0 → f y + n ≤ f (get_or xs q d) → sum_by f (set xs q y) + n ≤ sum_by f xs
 total_falls f d xs q y n e h =
     ⊎_elim
     (λ l. omega (arith, sum_by-set f xs q y d l))

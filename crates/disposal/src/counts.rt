@@ -1,5 +1,6 @@
 //! What goes with a count of a cell: its block with the last weak count, its elements with the
 //! last strong one.
+// Each contract asks for `room`: every turn uses up one of it, so no type's invariant can keep it.
 
 ghost use Rattle.std.specs.Prelude.{◌≡◌, if◌then◌else◌, slice_set};
 ghost use Rattle.element.specs.declared.reference.Reference.TheVariants.{Strong};

@@ -9,8 +9,10 @@ invariant_of-self c =
     let table = c.args.self.now in
     let full = table.full in
     let l : c.args.p < length table.rows = omega arith in
+    let here = standing_here table.rows c.args.p free_row l in
+    let sum = standing_set table.rows c.args.p free_row c.args.row.counts l in
     record {
       full = length-set table.rows c.args.p _ ∙ full;
       few = small_set table.rows c.args.p _ table.few (search rules);
-      sum = rw counts_set (omega (arith, c.from.ensures, c.from-then-p-lt1024.ensures, standing_here table.rows c.args.p free_row l, standing_set table.rows c.args.p free_row c.args.row.counts l));
+      sum = rw counts_set (omega (arith, c.from.ensures, c.from-then-p-lt1024.ensures));
     }

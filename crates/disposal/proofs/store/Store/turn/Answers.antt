@@ -37,7 +37,7 @@ returns-else-link g c =
     let f = c.turn_close.ensures in
     let over : c.args.link.next < c.args.link.end → c.args.link.next < length c.args.memory.now → ⊥ =
     elim c.else-link.branch [
-      else-link-via-else-link w ↦ (λ a b. omega arith)
+      | else-link-via-else-link w ↦ (λ a b. omega arith)
       | else-link-via-then-link+in-None-1 w ↦ (λ a b. none_past w.get.result (search rules) (w.get.ensures.lookup.2 b))
     ] in
     turned_at _ _ _ _ _ _ _ _ f.books refl f.links f.place

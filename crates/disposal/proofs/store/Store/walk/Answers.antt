@@ -15,7 +15,8 @@ pub returns : goal.returns
 returns g c =
     let m = g.A.Allocator.meaning in
     let e = ended g.E.Element.refs c.args.memory.now (walk_of m c.args.self.now c.args.receipt.now c.args.list.now c.args.from)
-    (walk_of m c.loop-place.self c.loop-place.receipt c.loop-place.list c.loop-place.place) (stack_of c.args.from) c.in_default.is c.loop-place.invariant in
+    (walk_of m c.loop-place.self c.loop-place.receipt c.loop-place.list c.loop-place.place) (stack_of c.args.from)
+    c.in_default.is c.loop-place.invariant in
     record { does = e.does; rests = e.rests }
 
 pub unreachable-requires : goal.unreachable-requires

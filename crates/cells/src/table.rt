@@ -5,7 +5,6 @@ ghost use Rattle.cells.specs.Counts.{none};
 ghost use Rattle.cells.specs.Rows.{at, link_at, at_rest, counts_of, links_of, standing_in, free_row, small};
 
 use crate::row::{Link, Row};
-use std::mem;
 
 /// A row for each place that a memory can have, and how many elements stand in all of them.
 #[derive(Drop)]

@@ -21,7 +21,7 @@ impl<A: Allocator> Store<A> {
         receipt: &mut Receipt,
     )
         requires { tally receipt.old ≡ 0 }
-        ensures release { Release E.Element.refs memory.now r (world_of A.Allocator.meaning self.old receipt.old list.old) (world_of A.Allocator.meaning self.new receipt.new list.new) }
+        ensures release { Release E.refs memory.now r (world_of A.meaning self.old receipt.old list.old) (world_of A.meaning self.new receipt.new list.new) }
         ensures links { Resting (links_in self.old.table) → Resting (links_in self.new.table) }
     {
         let place = self.lower(r, None, receipt);

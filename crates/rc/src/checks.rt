@@ -117,16 +117,16 @@ impl<A: Allocator> Census<A> {
         ensures { Answers (wrong_memory (world A.meaning self.now) memory.now ∷ no_rc (world A.meaning self.now) ticket ∷ past_memory memory.now ticket.place ∷ slice_cell (world A.meaning self.now) ticket.place ∷ not_sole (world A.meaning self.now) ticket.place ∷ []) result (λ x. take 1 (drop ticket.place memory.now) ≡ x ∷ []) (Unit {0}) }
     {
         let cell = self.admit(memory, Sort::Strong, ticket)?;
-        let place = ticket.place as usize;
-        if place >= memory.len() {
-            return Err(Decline::Handle);
-        }
+        let x = memory
+            .get(ticket.place as usize)
+            .copied()
+            .ok_or(Decline::Handle)?;
         if cell.counts.shape == Shape::Slice {
             return Err(Decline::Slice);
         }
         if cell.counts.strong != 1 {
             return Err(Decline::Shared);
         }
-        Ok(memory[place])
+        Ok(x)
     }
 }

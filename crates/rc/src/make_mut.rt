@@ -48,8 +48,8 @@ fn copy_one<E: Element>(memory: &mut [E], from: usize, to: usize)
     }
 }
 
-/// Copies `n` elements within the memory, first to last. By index, since both blocks lie in the one
-/// slice, and its own `copy_within` asks that they end inside it.
+/// Copies `n` elements within the memory, first to last. One by one: the slice's own `copy_within`
+/// asks that both parts lie inside it, and what a table says of a cell does not show that.
 fn copy_within<E: Element>(memory: &mut [E], from: u32, to: u32, n: u16)
     ensures { memory.new ≡ copied memory.old from to n }
 {
@@ -79,6 +79,7 @@ impl<A: Allocator> Census<A> {
         ensures { Copies E.refs (world A.meaning self.old) memory.old p result (world A.meaning self.new) memory.new }
     {
         raise_all(&mut self.store.table, memory, p, counts.standing)?;
+        // No `?`: the references are taken back first.
         let q = match self.allocate(counts.size) {
             Ok(q) => q,
             Err(why) => {

@@ -6,8 +6,6 @@ ghost use Rattle.std.specs.Prelude.{◌≡◌, take, drop};
 pub(crate) fn part<E>(all: &[E], from: usize, n: usize) -> &[E]
     ensures { result.now ≡ take n (drop from all.now) }
 {
-    let from = from.min(all.len());
-    let rest = &all[from..];
-    let n = n.min(rest.len());
-    &rest[0..n]
+    let rest = all.get(from..).unwrap_or(&[]);
+    rest.get(..n).unwrap_or(rest)
 }

@@ -29,10 +29,7 @@ fn spare(table: &Table, r: Reference) -> u16
     let Some((sort, place)) = r.handle() else {
         return 0;
     };
-    match Cell::of(table.get(place as usize)) {
-        Some(cell) => cell.counts.loose(sort),
-        None => 0,
-    }
+    Cell::of(table.get(place as usize)).map_or(0, |cell| cell.counts.loose(sort))
 }
 
 /// Whether the list names the reference, not an empty one, more often than loose ones stand.

@@ -26,6 +26,7 @@ pub(crate) fn lowest_gap(blocks: &[Block], extent: usize, n: usize) -> Option<Ga
     requires { (0 < n) × (extent ≤ 1024) × Apart extent 0 blocks.now }
     ensures { GapIn extent n blocks.now result }
 {
+    // The end of the last block goes along, and the first gap ends the search: no chain says that shorter.
     let mut from = 0;
     for (line, taken) in blocks.iter().enumerate() {
         if has_room(n, from, taken.offset) {

@@ -6,7 +6,8 @@ ghost use Rattle.cells.specs.Rows.{at, link_at, at_rest, counts_of, links_of, st
 
 use crate::row::{Link, Row};
 
-/// A row for each place that a memory can have, and how many elements stand in all of them.
+/// A row for each place that a memory can have, and how many elements stand in all of them. An array,
+/// since no call may allocate.
 #[derive(Drop)]
 pub struct Table {
     rows: [Row; 1024],
@@ -49,6 +50,7 @@ impl Table {
         ensures counts { counts_of self.new.rows ≡ slice_set (counts_of self.old.rows) p row.counts }
         ensures links { links_of self.new.rows ≡ slice_set (links_of self.old.rows) p row.link }
     {
+        // By index: past the borrow of `get_mut` a proof knows only how many rows there are.
         if p < 1024 {
             let place = &mut self.rows[p];
             let old = place.counts.standing;
@@ -71,6 +73,7 @@ impl Table {
         ensures counts { counts_of self.new.rows ≡ counts_of self.old.rows }
         ensures links { links_of self.new.rows ≡ slice_set (links_of self.old.rows) p link }
     {
+        // By index, as in `put`.
         if p < 1024 {
             let row = &mut self.rows[p];
             row.link = link;

@@ -104,7 +104,8 @@ impl<A: Allocator> Store<A> {
         link.back
     }
 
-    /// One turn of the walk, at the cell at `p`. Answers the cell to go on with.
+    /// One turn of the walk, at the cell at `p`: which of the three it is shows in the link alone. Answers
+    /// the cell to go on with.
     fn turn<E: Element>(
         &mut self,
         memory: &[E],

@@ -7,7 +7,8 @@ use element::Note;
 /// How many places the memory has.
 pub(crate) const PLACES: usize = 8;
 
-/// A census over eight places, whose handles are all loose between lines.
+/// A census over eight places, whose handles are all loose between lines. The memory and the list are
+/// arrays, since no call may allocate.
 pub struct Drive {
     pub(crate) loose: Loose<FirstFit>,
     pub(crate) memory: [Note; PLACES],

@@ -12,7 +12,8 @@ pub enum Sort {
     Weak,
 }
 
-/// A handle as an element holds it: strong or weak to the cell at a place, or empty.
+/// A handle as an element holds it: strong or weak to the cell at a place, or empty. No `Option` of a
+/// handle: these three names are what elements are written and read with.
 #[derive(Clone, Copy, PartialEq, Eq, Debug, Default)]
 pub enum Reference {
     #[default]

@@ -1,4 +1,4 @@
-//! The counts of a cell.
+//! The counts of a cell. An empty `Weak` has none, so each count has a call for either handle.
 
 ghost use Rattle.std.specs.Prelude.{◌≡◌};
 ghost use Rattle.cells.specs.Rows.{at};

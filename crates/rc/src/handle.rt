@@ -16,7 +16,8 @@ pub struct Ticket {
     pub place: u32,
 }
 
-/// A token of what a handle is of.
+/// A token of what a handle is of. The flag is a rule of the project: a token may be let go, but only
+/// once it is spent.
 pub struct Handle<T: Copy> {
     pub(crate) ticket: T,
     spent: bool,

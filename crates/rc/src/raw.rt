@@ -1,4 +1,5 @@
-//! Handles made raw, and made from raw numbers.
+//! Handles made raw, and made from raw numbers. A `Weak` may be empty, so its calls answer another type
+//! than those of an `Rc`; what they share goes by the sort.
 
 ghost use Rattle.std.specs.Prelude.{◌≡◌, [], ◌∷◌};
 ghost use Rattle.rc.specs.Calls.{RcIntoRaw, RcFromRaw, WeakIntoRaw, WeakFromRaw, Increment, loosened_at, held_at};

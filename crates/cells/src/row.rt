@@ -63,7 +63,8 @@ pub struct Row {
 }
 
 impl Row {
-    /// What stands where no cell does.
+    /// What stands where no cell does. No `Default`: a derived one tells a proof its fields one by one, and
+    /// the table needs the row whole.
     pub(crate) const FREE: Row = Row {
         counts: Counts {
             state: State::Free,

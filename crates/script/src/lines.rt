@@ -43,6 +43,7 @@ impl FromStr for Line {
     ghost from_str_gives = { Reads };
 
     fn from_str(text: &str) -> Result<Line, LineError> {
+        // The pattern asks for the space too, which no `?` would.
         let Some(([letter, b' '], digits)) = text.as_bytes().split_first_chunk::<2>() else {
             return Err(LineError::Malformed);
         };

@@ -1,6 +1,5 @@
 pub mod Chains
 pub mod Making
-pub mod Parts
 pub mod Housed
 pub mod Admitted
 pub mod Fresh

@@ -50,6 +50,7 @@ fn copy_one<E: Element>(memory: &mut [E], from: usize, to: usize)
 
 /// Copies `n` elements within the memory, first to last. By index, since both blocks lie in the one
 /// slice, and its own `copy_within` asks that they end inside it.
+#[tactic(auto, using(crate::proofs::Making::copied_more), unfolding(crate::specs::Ends::copied))]
 fn copy_within<E: Element>(memory: &mut [E], from: u32, to: u32, n: u16)
     ensures { memory.new ≡ copied memory.old from to n }
 {

@@ -51,5 +51,6 @@ some_lacking_padded : (rows : List Counts) (rs qs : List Reference) → length r
 some_lacking_padded rows rs [] h = refl
 some_lacking_padded rows rs (q ∷ qs) h = rw (lacking_padded rows rs q h, some_lacking_padded rows rs qs h) refl
 
-pub lacking_all_padded : (rows : List Counts) (rs : List Reference) → length rs ≤ 4 → some_lacking rows (padded rs) (padded rs) ≡ some_lacking rows rs rs
-lacking_all_padded rows rs h = some_lacking_padded rows rs (padded rs) h ∙ lacking_front rows rs rs h
+-- what is told of the padded list is told of the references
+pub lacks_told : (rows : List Counts) (rs qs : List Reference) (b : Bool) → b ≡ some_lacking rows qs qs → qs ≡ padded rs → length rs ≤ 4 → b ≡ some_lacking rows rs rs
+lacks_told rows rs qs b h e l = h ∙ rw e (some_lacking_padded rows rs (padded rs) l ∙ lacking_front rows rs rs l)

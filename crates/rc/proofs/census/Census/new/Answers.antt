@@ -1,14 +1,14 @@
 use Rattle.std.proofs.Common.{◌≡◌, ℕ, set, sym, refl, ap, ◌∙◌, subst, ap₂, arith}
 use Rattle.std.proofs.lemmas.Result.{err_from_is_err_and}
-use Rattle.cells.specs.Counts.{shared}
+use Rattle.cells.specs.Counts.{shared, has_loose, one_held}
 use Rattle.cells.specs.declared.row.Shape.TheVariants.{Single}
 use Rattle.rc.specs.Calls.{Made}
-use Rattle.references.specs.References.{some_lacking, each, held}
+use Rattle.references.specs.References.{each, held}
 use Rattle.rc.specs.Tickets.{ticket_of}
 use Rattle.rc.specs.Worlds.{World, world, with_row}
 use Rattle.rc.specs.declared.handle.Ticket.{Ticket}
 use Rattle.rc.proofs.Making.{made}
-use Rattle.references.proofs.Naming.{lacking_all_padded, each_padded}
+use Rattle.references.proofs.Naming.{lacks_told, each_padded}
 use Rattle.rc.proofs.census.Census.new.Goals as goal
 
 pub returns-then-lacks_some : goal.returns-then-lacks_some
@@ -16,8 +16,7 @@ returns-then-lacks_some g c =
     let w = world g.A.Allocator.meaning c.args.self.now in
     let rs = g.E.Element.refs c.args.x in
     let few = g.met.E.Element.few c.args.x in
-    let told : c.lacks_some.result ≡ some_lacking w.rows rs rs =
-    c.lacks_some.ensures ∙ ap₂ (some_lacking w.rows) c.references_of-rs.ensures c.references_of-rs.ensures ∙ lacking_all_padded w.rows rs few in
+    let told = lacks_told w.rows rs c.references_of-rs.result c.lacks_some.result c.lacks_some.ensures c.references_of-rs.ensures few in
     grind (arith, told, c.in_ok-check_memory.ensures)
 
 pub returns-in_err-place : goal.returns-in_err-place
@@ -25,8 +24,7 @@ returns-in_err-place g c =
     let w = world g.A.Allocator.meaning c.args.self.now in
     let rs = g.E.Element.refs c.args.x in
     let few = g.met.E.Element.few c.args.x in
-    let told : c.lacks_some.result ≡ some_lacking w.rows rs rs =
-    c.lacks_some.ensures ∙ ap₂ (some_lacking w.rows) c.references_of-rs.ensures c.references_of-rs.ensures ∙ lacking_all_padded w.rows rs few in
+    let told = lacks_told w.rows rs c.references_of-rs.result c.lacks_some.result c.lacks_some.ensures c.references_of-rs.ensures few in
     let p = err_from_is_err_and c.from_residual-in_err-place.result c.from_residual-in_err-place.ensures.1 in
     rw (p.1, p.2) (grind (arith, told, c.in_ok-check_memory.ensures, c.in_err-place.ensures))
 
@@ -37,12 +35,11 @@ returns g c =
     let v = world g.A.Allocator.meaning c.put.new.self in
     let rs = g.E.Element.refs c.args.x in
     let few = g.met.E.Element.few c.args.x in
-    let lacks : c.lacks_some.result ≡ some_lacking w.rows rs rs =
-    c.lacks_some.ensures ∙ ap₂ (some_lacking w.rows) c.references_of-rs.ensures c.references_of-rs.ensures ∙ lacking_all_padded w.rows rs few in
+    let lacks = lacks_told w.rows rs c.references_of-rs.result c.lacks_some.result c.lacks_some.ensures c.references_of-rs.ensures few in
     let told = c.in_ok-place.ensures in
     let p = c.in_ok-place.place in
     let k = shared Single 1 1 in
-    let held_rows = c.hold_all.ensures ∙ ap₂ (each held) told.2 c.references_of-rs.ensures ∙ each_padded held (λ rows. refl) w.rows rs few in
+    let held_rows = c.hold_all.ensures ∙ ap₂ (each held) told.2 c.references_of-rs.ensures ∙ each_padded has_loose one_held w.rows rs few in
     let written = c.put.ensures ∙ ap (with_row u p) c.shared.ensures.counts in
     let stands = made w u v 1 (each held w.rows rs) k p told.0 told.1 held_rows written in
     let number : v.number ≡ w.number = ap (λ (z : World). z.number) written ∙ told.1 in (

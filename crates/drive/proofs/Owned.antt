@@ -5,6 +5,7 @@ use Rattle.std.proofs.lemmas.Bool.{and_parts}
 use Rattle.cells.specs.Counts.{is_cell}
 use Rattle.cells.specs.Rows.{at}
 use Rattle.element.specs.declared.reference.Reference.{Reference}
+use Rattle.element.specs.declared.reference.Sort.TheVariants.{Strong}
 use Rattle.rc.specs.Admits.{AdmitsRc}
 use Rattle.rc.specs.Calls.{RcFromRaw, held_strong, loosened_strong, unfit}
 use Rattle.rc.specs.Checks.{Answers, first, wrong_memory, no_rc, no_loose_strong}
@@ -15,7 +16,8 @@ use Rattle.rc.specs.Worlds.{World}
 use Rattle.rc.specs.declared.decline.Decline.{Decline}
 use Rattle.rc.specs.Handles.{Rc}
 use Rattle.rc.specs.declared.handle.Ticket.{Ticket}
-use Rattle.rc.proofs.Admitted.{rc_stands, rc_admitted}
+use Rattle.rc.proofs.Admitted.{handle_admitted}
+use Rattle.rc.proofs.Chains.{handle_stands}
 use Rattle.rc.proofs.Fresh.{Ready, Fresh, copied_fresh, moved_fresh}
 use Rattle.rc.proofs.Housed.{gathered}
 use Rattle.drive.specs.Commands.{own_checks, Owns, MakesOwn}
@@ -95,14 +97,13 @@ module _ {E : Type 0} (refs : E → List Reference) (w : World) (memory : List E
 
   same_kept : AllHoused w → AdmitsRc w memory rc.ticket → Same → Kept
   same_kept h a x = (
-    subst (λ (z : World). AdmitsRc z memory' rc'.ticket) (sym x.0)
-        (subst (λ (z : List E). AdmitsRc w z rc'.ticket) (sym x.1) (subst (λ (z : Rc). AdmitsRc w memory z.ticket) (sym x.2) a)),
-    subst AllHoused (sym x.0) h,
+    rw (x.0, x.1, x.2) a,
+    rw x.0 h,
   )
 
   from_fresh : MovedTo w rc rc' → Fresh w v memory' rc'.ticket.place → Kept
   from_fresh to f = (
-    rc_admitted v memory' rc'.ticket f.fits (ap (λ (t : Ticket). t.census) to.0 ∙ sym f.number) f.strong,
+    handle_admitted Strong v memory' rc'.ticket f.fits (ap (λ (t : Ticket). t.census) to.0 ∙ sym f.number) f.strong,
     gathered v.rows v.meaning.out f.homes,
   )
 
@@ -111,8 +112,8 @@ module _ {E : Type 0} (refs : E → List Reference) (w : World) (memory : List E
       let p = rc.ticket.place in
       let q = rc'.ticket.place in
       let k = at w.rows p in
-      let s = rc_stands w memory rc.ticket adm in
-      let cell = (and_parts (is_cell k) _ s.strong).0 in
+      let s = handle_stands Strong w memory rc.ticket adm in
+      let cell = (and_parts (is_cell k) _ s.admitted).0 in
       one_way (ltb 1 k.strong) (ltb 1 k.weak) Copy Move Same Kept
       (λ x. from_fresh x.0 (copied_fresh w memory memory' p q v can cell s.memory_fits refs x.1))
       (λ x. from_fresh x.0 (moved_fresh w memory memory' p q v can cell s.memory_fits x.1))
@@ -132,19 +133,17 @@ module _ {E : Type 0} (refs : E → List Reference) (w : World) (memory : List E
       ≡ first (wrong_memory u memory ∷ no_rc u rc.ticket ∷ own_checks refs u memory rc.ticket.place)
   own_checks_again =
       checked_again w memory p rc u told (own_checks refs u memory rc.ticket.place) (own_checks refs (held_strong w p) memory p)
-      (ap₂ (λ (z : World) (n : ℕ). first (own_checks refs z memory n)) told.1.1 (at_place w memory p rc u told))
+      (rw (told.1.0.0, told.1.1) refl)
 
   pub not_owned : (why : Decline) → MakeMut refs u memory rc (Err why) a memory' rc' → MakesOwn refs w memory p (Err why) b memory'
   not_owned why h =
       let back = declined refs u memory rc a memory' rc' why h in
-      let after = loosed ∙ ap₂ (λ (z : World) (h : Rc). loosened_strong z h.ticket.place) back.1.0 back.1.2 in
-      (own_checks_again ∙ back.0, (rc_back w memory p rc u told b after, back.1.1))
+      (own_checks_again ∙ back.0, (rc_back w memory p rc u told b (rw (back.1.0, back.1.2) at loosed), back.1.1))
 
   pub owned : (x : Unit {0}) → MakeMut refs u memory rc (Ok x) a memory' rc'
       → MakesOwn refs w memory p (Ok (record { value = Some rc'.ticket.place; place = rc'.ticket.place })) b memory'
   owned x h =
       let q = rc'.ticket.place in
       let done = accepted refs u memory rc a memory' rc' x h in
-      let here = subst (λ (n : ℕ). Owns refs u memory n q a memory') (at_place w memory p rc u told)
-      (owns refs u memory rc a memory' rc' done.1) in
-      (own_checks_again ∙ done.0, ((refl, refl), (a, subst (λ (z : World). Owns refs z memory p q a memory') told.1.1 here, loosed)))
+      let here = owns refs u memory rc a memory' rc' done.1 in
+      (own_checks_again ∙ done.0, ((refl, refl), (a, rw (told.1.0.0, told.1.1) at here, loosed)))

@@ -4,7 +4,7 @@ use Rattle.std.proofs.lemmas.List.{get_or-set_same, get_or_past, set-set, set-ge
 use Rattle.std.proofs.lemmas.Grind.{common_steps}
 use Rattle.std.proofs.lemmas.Bool.{cases_lt, true≢false}
 use Rattle.std.proofs.lemmas.Bool.Decides.{nat_tests}
-use Rattle.cells.specs.Counts.{none, is_cell, admits, has_loose, one_more, one_looser, one_held}
+use Rattle.cells.specs.Counts.{none, is_cell, handles, admits, has_loose, one_more, one_looser, one_held}
 use Rattle.cells.specs.Rows.{at}
 use Rattle.cells.specs.declared.row.Counts.{Counts}
 use Rattle.element.specs.declared.reference.Sort.{Sort}
@@ -30,22 +30,27 @@ pub held_back : (s : Sort) (k : Counts) → has_loose s k ≡ true → one_loose
 held_back Strong k h = grind (arith, nat_tests)
 held_back Weak k h = grind (arith, nat_tests)
 
--- one weak handle more beside a strong one: both are admitted
-pub weaker : (s : Sort) (k : Counts) → admits Strong k ≡ true → admits s (one_more Weak k) ≡ true
-weaker Strong k h = grind (arith, nat_tests)
-weaker Weak k h = grind (arith, nat_tests)
+abbrev pub other : Sort → Sort
+other Strong = Weak
+other Weak = Strong
 
--- one strong handle more beside a weak one, while one is left
-pub stronger : (s : Sort) (k : Counts) → admits Weak k ≡ true → 0 < k.strong → admits s (one_more Strong k) ≡ true
-stronger Strong k h l = grind (arith, nat_tests, owns_still k.state k.strong l)
-stronger Weak k h l = grind (arith, nat_tests, owns_still k.state k.strong l)
+-- while a strong handle is left, one handle more is admitted
+pub more_admitted : (s : Sort) (k : Counts) → is_cell k ≡ true → 0 < k.strong → admits s (one_more s k) ≡ true
+more_admitted Strong k h l = grind (arith, nat_tests, owns_still k.state k.strong l)
+more_admitted Weak k h l = grind (arith, nat_tests)
 
--- a handle of one sort made loose leaves those of the other
-pub looser_strong : (k : Counts) → admits Weak k ≡ true → admits Strong k ≡ true → admits Strong (one_looser Weak k) ≡ true
-looser_strong k h l = grind (arith, nat_tests)
+-- and one of the other sort leaves a held handle admitted
+pub given_admitted : (s : Sort) (k : Counts) → has_loose s k ≡ true → 0 < k.strong → admits s (one_more (other s) (one_held s k)) ≡ true
+given_admitted Strong k h l = grind (arith, nat_tests)
+given_admitted Weak k h l = grind (arith, nat_tests, owns_still k.state k.strong l)
 
-pub looser_weak : (k : Counts) → admits Strong k ≡ true → admits Weak k ≡ true → admits Weak (one_looser Strong k) ≡ true
-looser_weak k h l = grind (arith, nat_tests)
+pub given_back : (s : Sort) (k : Counts) → has_loose s k ≡ true → one_looser s (one_more (other s) (one_held s k)) ≡ one_more (other s) k
+given_back Strong k h = grind (arith, nat_tests)
+given_back Weak k h = grind (arith, nat_tests)
+
+pub others_still : (s : Sort) (k : Counts) → handles (other s) (one_held s k) ≡ handles (other s) k
+others_still Strong k = refl
+others_still Weak k = refl
 
 -- Places
 
@@ -65,16 +70,19 @@ row_here w u p k l e = rw (e, get_or-set_same w.rows p k none l) refl
 
 -- Handles
 
+abbrev pub Admits : {E : Type 0} → Sort → World → List E → Ticket → Type 0
+Admits s w memory t = first (wrong_memory w memory ∷ no_handle s w t ∷ []) ≡ 0
+
 -- an admitted handle is not refused
 pub unrefused : (n : ℕ) (d : Decline) → n ≡ 0 → n ≡ number_of d → ⊥
 unrefused n d e e' = let h = numbered d in omega arith
 
 pub handle_admitted : {E : Type 0} (s : Sort) (w : World) (memory : List E) (t : Ticket) → (wrong_memory w memory).0 ≡ false
-    → t.census ≡ w.number → admits s (at w.rows t.place) ≡ true → first (wrong_memory w memory ∷ no_handle s w t ∷ []) ≡ 0
+    → t.census ≡ w.number → admits s (at w.rows t.place) ≡ true → Admits s w memory t
 handle_admitted s w memory t m n a = grind (arith, nat_tests)
 
 -- a handle of the cell whose counts at p are k
 pub in_row : {E : Type 0} (s : Sort) (w u : World) (memory : List E) (p : ℕ) (k : Counts) (t : Ticket) → (wrong_memory w memory).0 ≡ false
-    → p < length w.rows → u ≡ with_row w p k → t ≡ ticket_of w.number p → admits s k ≡ true → first (wrong_memory u memory ∷ no_handle s u t ∷ []) ≡ 0
+    → p < length w.rows → u ≡ with_row w p k → t ≡ ticket_of w.number p → admits s k ≡ true → Admits s u memory t
 in_row s w u memory p k t m l e i a =
     rw (e, i) (handle_admitted s (with_row w p k) memory (ticket_of w.number p) m refl (rw (get_or-set_same w.rows p k none l) a))

@@ -1,6 +1,6 @@
 -- What `make_mut` answers of a held handle, by cases, and that the handle is admitted after it.
 use Rattle.std.proofs.Common.{◌≡◌, ℕ, Bool, true, false, cond, ltb, List, [], ◌∷◌, Some, Ok, Err, MatchBool, Result, sym, refl, ap, ◌∙◌}
-use Rattle.std.proofs.Common.{subst, ap₂}
+use Rattle.std.proofs.Common.{arith}
 use Rattle.std.proofs.lemmas.Bool.{and_parts}
 use Rattle.cells.specs.Counts.{is_cell}
 use Rattle.cells.specs.Rows.{at}
@@ -34,15 +34,11 @@ Ways a b c d f n r X Y Z D =
 
 ways_declined : (a b : Bool) (c d f n : Bool × ℕ) (why : Decline) (X Y Z D : Type 0) → Ways a b c d f n (Err why) X Y Z D
     → (first (c ∷ d ∷ ways a b f n) ≡ number_of why) × D
-ways_declined true b c d f n why X Y Z D h = h
-ways_declined false true c d f n why X Y Z D h = h
-ways_declined false false c d f n why X Y Z D h = h
+ways_declined a b c d f n why X Y Z D h = grind arith
 
 ways_accepted : (a b : Bool) (c d f n : Bool × ℕ) (x : Unit {0}) (X Y Z D : Type 0) → Ways a b c d f n (Ok x) X Y Z D
     → (first (c ∷ d ∷ ways a b f n) ≡ 0) × MatchBool a X (MatchBool b Y Z)
-ways_accepted true b c d f n x X Y Z D h = h
-ways_accepted false true c d f n x X Y Z D h = h
-ways_accepted false false c d f n x X Y Z D h = h
+ways_accepted a b c d f n x X Y Z D h = grind arith
 
 each_way : (a b : Bool) (X Y Z X' Y' Z' : Type 0) → (X → X') → (Y → Y') → (Z → Z') → MatchBool a X (MatchBool b Y Z)
     → MatchBool a X' (MatchBool b Y' Z')

@@ -39,9 +39,6 @@ head_passed applies n checks h e = grind arith
 pub past_two : (a b : Bool) (m n : ℕ) (checks : List (Bool × ℕ)) → 0 < m → 0 < n → first ((a, m) ∷ (b, n) ∷ []) ≡ 0 → first ((a, m) ∷ (b, n) ∷ checks) ≡ first checks
 past_two a b m n checks h k e = grind arith
 
-pub second_passed : (a b : Bool) (m n : ℕ) → 0 < m → 0 < n → first ((a, m) ∷ (b, n) ∷ []) ≡ 0 → b ≡ false
-second_passed a b m n h k e = grind arith
-
 -- what the checks of an admitted handle say
 pub record HandleStands {E : Type 0} (s : Sort) (w : World) (memory : List E) (t : Ticket) : Type 0 where
   pub memory_fits : (wrong_memory w memory).0 ≡ false

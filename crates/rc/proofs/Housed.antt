@@ -84,8 +84,8 @@ none_at (suc n) zero = refl
 none_at (suc n) (suc p) = none_at n p
 
 -- no cell stands in a new table
-pub housed_none : (n : ℕ) (out : List Block) → Housed (replicate n none) out
-housed_none n out p = ap (housed_at out p) (none_at n p)
+pub housed_none : (n : ℕ) (out : List Block) → housed (replicate n none) out ≡ true
+housed_none n out = gathered (replicate n none) out (λ p. ap (housed_at out p) (none_at n p))
 
 -- References
 

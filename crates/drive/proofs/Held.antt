@@ -1,5 +1,5 @@
 -- A loose handle that is held, used and made loose again at one place.
-use Rattle.std.proofs.Common.{◌≡◌, ℕ, ◌+◌, ◌-◌, ◌<◌, Bool, true, false, List, [], ◌∷◌, length, set, Some, None}
+use Rattle.std.proofs.Common.{◌≡◌, ℕ, ◌-◌, ◌<◌, Bool, true, false, List, [], ◌∷◌, length, set, Some, None}
 use Rattle.std.proofs.Common.{Ok, Err, Option, Result, sym, refl, ◌∙◌, subst, arith}
 use Rattle.std.specs.Prelude.{IsOk}
 use Rattle.std.proofs.lemmas.List.{get_or-set_same, set-set}
@@ -15,16 +15,16 @@ use Rattle.element.specs.declared.reference.Sort.TheVariants.{Strong, Weak as We
 use Rattle.rc.specs.Admits.{AdmitsRc, AdmitsWeak}
 use Rattle.rc.specs.Calls.{Made, RcFromRaw, Increment, WeakFromRaw, Downgrade, Upgrade, Upgraded, full_upgrade, held_at, held_strong}
 use Rattle.rc.specs.Calls.{loosened_at, loosened_strong, loosened_weak}
-use Rattle.rc.specs.Checks.{first, wrong_memory, no_handle, no_rc, no_weak, no_loose, no_loose_strong, no_loose_weak, past_memory, slice_cell}
+use Rattle.rc.specs.Checks.{first, wrong_memory, no_handle, no_rc, no_weak, no_loose, no_loose_strong, no_loose_weak, past_memory}
+use Rattle.rc.specs.Checks.{slice_cell}
 use Rattle.rc.specs.Checks.{not_sole, full, full_strong, full_weak}
-use Rattle.rc.specs.Ends.{Decrement, ReleasesWeak, WeakGoes, TryUnwrap, Unwrapped}
+use Rattle.rc.specs.Ends.{Decrement, ReleasesWeak, TryUnwrap}
 use Rattle.rc.specs.Housed.{housed_at, AllHoused}
 use Rattle.rc.specs.Tickets.{ticket_of, place_of}
 use Rattle.rc.specs.Worlds.{World, with_row}
 use Rattle.rc.specs.declared.decline.Decline.{Decline}
 use Rattle.rc.specs.declared.decline.Refused.{Refused}
 use Rattle.rc.specs.Handles.{Rc, Weak}
-use Rattle.rc.specs.declared.handle.Ticket.{Ticket}
 use Rattle.rc.proofs.Admitted.{Admits, other, held_admitted, held_back, more_admitted, given_admitted, given_back, others_still}
 use Rattle.rc.proofs.Admitted.{cell_within, row_back, row_again, row_here, in_row, unrefused}
 use Rattle.rc.proofs.Chains.{past_two}
@@ -63,7 +63,8 @@ passed_both : {E : Type 0} (s : Sort) (w : World) (memory : List E) (p : ℕ) �
     → ((wrong_memory w memory).0 ≡ false) × (has_loose s (at w.rows p) ≡ true) × (is_cell (at w.rows p) ≡ true)
 passed_both s w memory p e = grind arith
 
-stands : {E : Type 0} (s : Sort) (w : World) (memory : List E) (p : ℕ) → first (wrong_memory w memory ∷ no_loose s w p ∷ []) ≡ 0 → Stands s w memory p
+stands : {E : Type 0} (s : Sort) (w : World) (memory : List E) (p : ℕ) → first (wrong_memory w memory ∷ no_loose s w p ∷ []) ≡ 0
+    → Stands s w memory p
 stands s w memory p e =
     let h = passed_both s w memory p e in
     record { fits = h.0; some = h.1; cell = h.2; here = cell_within w.rows p h.2 }
@@ -90,7 +91,8 @@ module _ {E : Type 0} (s : Sort) (w : World) (memory : List E) (p : ℕ) (u : Wo
       → first (wrong_memory w memory ∷ no_loose s w p ∷ more') ≡ first (wrong_memory u memory ∷ no_handle s u (ticket_of w.number p) ∷ more)
   again more more' e =
       past_two (wrong_memory w memory).0 (no_loose s w p).0 1 4 more' (omega arith) (omega arith) passed
-      ∙ sym e ∙ sym (past_two (wrong_memory u memory).0 (no_handle s u (ticket_of w.number p)).0 1 3 more (omega arith) (omega arith) held)
+      ∙ sym e ∙ sym (past_two (wrong_memory u memory).0 (no_handle s u (ticket_of w.number p)).0 1 3 more (omega arith) (omega arith)
+      held)
 
   full_again : first (wrong_memory w memory ∷ no_loose s w p ∷ full (other s) w p ∷ [])
       ≡ first (wrong_memory u memory ∷ no_handle s u (ticket_of w.number p) ∷ full (other s) u p ∷ [])

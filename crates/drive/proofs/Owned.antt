@@ -21,7 +21,7 @@ use Rattle.rc.proofs.Chains.{handle_stands}
 use Rattle.rc.proofs.Fresh.{Ready, Fresh, copied_fresh, moved_fresh}
 use Rattle.rc.proofs.Housed.{gathered}
 use Rattle.drive.specs.Commands.{own_checks, Owns, MakesOwn}
-use Rattle.drive.proofs.Held.{at_place, checked_again, rc_back}
+use Rattle.drive.proofs.Held.{checked_again, rc_back}
 
 -- the three ways, as one list of checks
 abbrev ways : Bool → Bool → Bool × ℕ → Bool × ℕ → List (Bool × ℕ)

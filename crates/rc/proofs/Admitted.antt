@@ -1,8 +1,6 @@
 -- Handles that the census has just given or kept are admitted.
-use Rattle.std.proofs.Common.{◌≡◌, ℕ, ◌+◌, ◌<◌, false, true, List, [], ◌∷◌, length, set, sym, refl, ap, ◌∙◌, subst, ⊎_elim, arith}
+use Rattle.std.proofs.Common.{◌≡◌, ℕ, ◌<◌, false, true, List, [], ◌∷◌, length, refl, arith}
 use Rattle.std.proofs.lemmas.List.{get_or-set_same, get_or_past, set-set, set-get_or}
-use Rattle.std.proofs.lemmas.Grind.{common_steps}
-use Rattle.std.proofs.lemmas.Bool.{cases_lt, true≢false}
 use Rattle.std.proofs.lemmas.Bool.Decides.{nat_tests}
 use Rattle.cells.specs.Counts.{none, is_cell, handles, admits, has_loose, one_more, one_looser, one_held}
 use Rattle.cells.specs.Rows.{at}
@@ -12,7 +10,7 @@ use Rattle.element.specs.declared.reference.Sort.TheVariants.{Strong, Weak}
 use Rattle.rc.specs.Checks.{first, wrong_memory, no_handle}
 use Rattle.rc.specs.Declines.{number_of}
 use Rattle.rc.specs.Tickets.{ticket_of}
-use Rattle.rc.specs.Worlds.{World, with_row, with_rows}
+use Rattle.rc.specs.Worlds.{World, with_row}
 use Rattle.rc.specs.declared.decline.Decline.{Decline}
 use Rattle.rc.specs.declared.handle.Ticket.{Ticket}
 use Rattle.rc.proofs.Chains.{numbered}

@@ -1,9 +1,11 @@
 -- New cells: their handles are admitted, and each cell keeps a block that is out.
-use Rattle.std.proofs.Common.{◌≡◌, ℕ, zero, suc, ◌+◌, ◌-◌, ◌*◌, ◌<◌, ◌≤◌, Bool, true, false, ◌≢◌, List, [], ◌∷◌, length, drop, Some, None, Ok, Option, refl, ap, ◌∙◌, arith}
+use Rattle.std.proofs.Common.{◌≡◌, ℕ, zero, suc, ◌+◌, ◌-◌, ◌*◌, ◌<◌, ◌≤◌, Bool, true, false, ◌≢◌, List, [], ◌∷◌, length, drop, Some, None}
+use Rattle.std.proofs.Common.{Ok, Option, refl, ap, ◌∙◌, arith}
 use Rattle.std.proofs.lemmas.List.{length-set, get_or-set_same, get_or-set_other}
 use Rattle.std.proofs.lemmas.Grind.{common_steps}
 use Rattle.blocks.specs.Meaning.{Meaning}
-use Rattle.cells.specs.Counts.{none, taken, is_cell, handles, loose, admits, has_loose, one_more, one_less, one_held, admits_strong, shared, ownerless}
+use Rattle.cells.specs.Counts.{none, taken, is_cell, handles, loose, admits, has_loose, one_more, one_less, one_held, admits_strong}
+use Rattle.cells.specs.Counts.{shared, ownerless}
 use Rattle.cells.specs.Rows.{at}
 use Rattle.cells.proofs.Rows.{counts_length}
 use Rattle.cells.specs.declared.row.Counts.{Counts}
@@ -24,11 +26,13 @@ use Rattle.rc.specs.Worlds.{World, world, books}
 use Rattle.rc.specs.declared.census.Census.{Census}
 use Rattle.rc.specs.Handles.{Rc}
 use Rattle.rc.proofs.Chains.{head_passed}
-use Rattle.rc.proofs.Housed.{Housed, each_housed, changed_housed, loose_homes, counted_homes, spread, made_housed, closed_housed, upto_housed, home, clear_apart}
+use Rattle.rc.proofs.Housed.{Housed, each_housed, changed_housed, loose_homes, counted_homes, spread, made_housed, closed_housed}
+use Rattle.rc.proofs.Housed.{upto_housed, home, clear_apart}
 
 -- Lengths
 
-length_changed : (test : Sort → Counts → Bool) (f : Sort → Counts → Counts) (rows : List Counts) (o : Option (Sort × ℕ)) → length (changed test f rows o) ≡ length rows
+length_changed : (test : Sort → Counts → Bool) (f : Sort → Counts → Counts) (rows : List Counts) (o : Option (Sort × ℕ))
+    → length (changed test f rows o) ≡ length rows
 length_changed test f rows None = refl
 length_changed test f rows (Some (s, p)) = grind (arith, common_steps)
 
@@ -69,7 +73,8 @@ ready m c small h =
     let w = world m c in
     record { full = counts_length c.store.table.rows ∙ c.store.table.full; small = small; homes = spread w.rows w.meaning.out h }
 
-pub fresh_within : {w v : World} {n : ℕ} {rows : List Counts} {k : Counts} {p : ℕ} → Ready w → Made w n rows k p v → 0 < n → length rows ≡ length w.rows → p < length rows
+pub fresh_within : {w v : World} {n : ℕ} {rows : List Counts} {k : Counts} {p : ℕ} → Ready w → Made w n rows k p v → 0 < n
+    → length rows ≡ length w.rows → p < length rows
 fresh_within {w} {n = n} {p = p} ready made l e =
     let i = made.block.inside in
     let f = ready.full in
@@ -79,8 +84,10 @@ fresh_within {w} {n = n} {p = p} ready made l e =
 fresh_extent : {w v : World} {n : ℕ} {rows : List Counts} {k : Counts} {p : ℕ} → Made w n rows k p v → v.meaning.extent ≡ w.meaning.extent
 fresh_extent made = ap (λ (m : Meaning). m.extent) made.block.after
 
-fresh_housed : {w v : World} {rows : List Counts} {s : Shape} {n m p : ℕ} → Made w n rows (shared s n m) p v → 0 < n → Housed rows w.meaning.out → Housed v.rows v.meaning.out
-fresh_housed {w} {v} {rows} {s} {n} {m} {p} made l H = rw (made.block.after, made.table) (made_housed rows w.meaning.out p (shared s n m) l H)
+fresh_housed : {w v : World} {rows : List Counts} {s : Shape} {n m p : ℕ} → Made w n rows (shared s n m) p v → 0 < n
+    → Housed rows w.meaning.out → Housed v.rows v.meaning.out
+fresh_housed {w} {v} {rows} {s} {n} {m} {p} made l H =
+    rw (made.block.after, made.table) (made_housed rows w.meaning.out p (shared s n m) l H)
 
 -- the new cell has one `Rc`, which is admitted
 pub record Fresh {E : Type 0} (w v : World) (memory' : List E) (q : ℕ) : Type 0 where
@@ -91,7 +98,8 @@ pub record Fresh {E : Type 0} (w v : World) (memory' : List E) (q : ℕ) : Type 
 
 -- another place than the one that changes
 closed_other : (b : Books) (p q : ℕ) → q ≢ p → at (closed b p).rows q ≡ at b.rows q
-closed_other b p q n = grind (arith, get_or-set_other b.rows p q (ownerless (at b.rows p)) none n, get_or-set_other b.rows p q none none n)
+closed_other b p q n =
+    grind (arith, get_or-set_other b.rows p q (ownerless (at b.rows p)) none n, get_or-set_other b.rows p q none none n)
 
 closed_extent : (b : Books) (p : ℕ) → (closed b p).meaning.extent ≡ b.meaning.extent
 closed_extent b p = grind arith
@@ -99,8 +107,10 @@ closed_extent b p = grind arith
 lowered_other : (rows : List Counts) (p q : ℕ) → q ≢ p → at (lowered rows (Strong p)) q ≡ at rows q
 lowered_other rows p q n = grind (arith, get_or-set_other rows p q (one_less sort.Strong (at rows p)) none n)
 
-pub made_fresh : {E : Type 0} (w v : World) (memory memory' : List E) (q : ℕ) (rows : List Counts) (n m : ℕ) (s : Shape) → Ready w → (wrong_memory w memory).0 ≡ false
-    → 0 < n → length rows ≡ length w.rows → Housed rows w.meaning.out → Made w n rows (shared s n m) q v → length memory' ≡ length memory → Fresh w v memory' q
+pub made_fresh : {E : Type 0} (w v : World) (memory memory' : List E) (q : ℕ) (rows : List Counts) (n m : ℕ) (s : Shape) → Ready w
+    → (wrong_memory w memory).0 ≡ false
+    → 0 < n → length rows ≡ length w.rows → Housed rows w.meaning.out → Made w n rows (shared s n m) q v → length memory' ≡ length memory
+    → Fresh w v memory' q
 made_fresh w v memory memory' q rows n m s ready fit l e H made same =
     record {
       fits = same_fit w v memory memory' same (fresh_extent made) fit;
@@ -110,18 +120,21 @@ made_fresh w v memory memory' q rows n m s ready fit l e H made same =
     }
 
 -- what `new` makes
-pub new_fresh : {E : Type 0} (refs : E → List Reference) (w v : World) (memory memory' : List E) (x : E) (rc : Rc) → Ready w → New refs w memory x (Ok rc) v memory' → Fresh w v memory' rc.ticket.place
+pub new_fresh : {E : Type 0} (refs : E → List Reference) (w v : World) (memory memory' : List E) (x : E) (rc : Rc) → Ready w
+    → New refs w memory x (Ok rc) v memory' → Fresh w v memory' rc.ticket.place
 new_fresh refs w v memory memory' x rc can new =
     let out = w.meaning.out in
     made_fresh w v memory memory' rc.ticket.place (each held w.rows (refs x)) 1 1 Single can
     (head_passed (wrong_memory w memory).0 1 (lacking_references w (refs x) ∷ unfit w 1 ∷ []) (omega arith) new.0)
-    (omega arith) (length_each_held w.rows (refs x)) (each_housed has_loose one_held out (loose_homes out (λ s k. loose s k - 1)) w.rows (refs x) can.homes)
+    (omega arith) (length_each_held w.rows (refs x))
+    (each_housed has_loose one_held out (loose_homes out (λ s k. loose s k - 1)) w.rows (refs x) can.homes)
     new.1.1 (ap length new.1.2 ∙ length-set memory rc.ticket.place x)
 
 taken_cell : (k : Counts) → is_cell k ≡ true → taken k.state ≡ true
 taken_cell k h = grind arith
 
-module _ {E : Type 0} (w : World) (memory memory' : List E) (p q : ℕ) (v : World) (ready : Ready w) (cell : is_cell (at w.rows p) ≡ true) (fit : (wrong_memory w memory).0 ≡ false) where
+module _ {E : Type 0} (w : World) (memory memory' : List E) (p q : ℕ) (v : World) (ready : Ready w) (cell : is_cell (at w.rows p) ≡ true)
+    (fit : (wrong_memory w memory).0 ≡ false) where
   -- the block that the cell has keeps the new one apart
   new_apart : {rows : List Counts} {k : Counts} {u : World} → Made w (at w.rows p).size rows k q u → (0 < (at w.rows p).size) × (q ≢ p)
   new_apart made =
@@ -138,10 +151,17 @@ module _ {E : Type 0} (w : World) (memory memory' : List E) (p q : ℕ) (v : Wor
       let far = new_apart c.made in
       let long = length_upto f (4 * k.standing) w.rows in
       record {
-        fits = same_fit w v memory memory' (ap length c.memory_after ∙ length_copied memory p q k.standing) (ap (λ (z : World). z.meaning.extent) c.fallen ∙ fresh_extent c.made) fit;
+        fits = same_fit w v memory memory' (ap length c.memory_after ∙ length_copied memory p q k.standing)
+            (ap (λ (z : World). z.meaning.extent) c.fallen ∙ fresh_extent c.made) fit;
         number = ap (λ (z : World). z.number) c.fallen ∙ c.made.number;
         strong =
-            rw (c.fallen, lowered_other u.rows p q far.1, c.made.table, get_or-set_same rows q (shared k.shape k.size k.standing) none (fresh_within ready c.made far.0 long))
+            rw (
+              c.fallen,
+              lowered_other u.rows p q far.1,
+              c.made.table,
+              get_or-set_same rows q (shared k.shape k.size k.standing) none
+                  (fresh_within ready c.made far.0 long),
+            )
             refl;
         homes =
             rw c.fallen
@@ -156,10 +176,17 @@ module _ {E : Type 0} (w : World) (memory memory' : List E) (p q : ℕ) (v : Wor
       let b = books u none_yet in
       let far = new_apart c.made in
       record {
-        fits = same_fit w v memory memory' (ap length c.memory_after ∙ length_copied memory p q k.standing) (ap (λ (z : World). z.meaning.extent) c.left ∙ closed_extent b p ∙ fresh_extent c.made) fit;
+        fits = same_fit w v memory memory' (ap length c.memory_after ∙ length_copied memory p q k.standing)
+            (ap (λ (z : World). z.meaning.extent) c.left ∙ closed_extent b p ∙ fresh_extent c.made) fit;
         number = ap (λ (z : World). z.number) c.left ∙ c.made.number;
         strong =
-            rw (c.left, closed_other b p q far.1, c.made.table, get_or-set_same w.rows q (shared k.shape k.size k.standing) none (fresh_within ready c.made far.0 refl))
+            rw (
+              c.left,
+              closed_other b p q far.1,
+              c.made.table,
+              get_or-set_same w.rows q (shared k.shape k.size k.standing) none
+                  (fresh_within ready c.made far.0 refl),
+            )
             refl;
         homes = rw c.left (closed_housed b p (fresh_housed c.made far.0 ready.homes));
       }

@@ -1,19 +1,21 @@
 -- Cells whose blocks are out stay so, and a new cell stands apart from them.
-use Rattle.std.proofs.Common.{◌≡◌, ℕ, zero, suc, ◌+◌, ◌-◌, ◌<◌, Bool, true, ltb, ◌≢◌, List, [], ◌∷◌, length, set, replicate, Some, None, Option, refl, sym, ap, subst, add-zero, zero-add, add-suc, suc-add, arith}
+use Rattle.std.proofs.Common.{◌≡◌, ℕ, zero, suc, ◌+◌, ◌-◌, ◌<◌, Bool, true, ltb, ◌≢◌, List, [], ◌∷◌, length, set, replicate, Some, None}
+use Rattle.std.proofs.Common.{Option, refl, sym, ap, subst, add-zero, zero-add, add-suc, suc-add, arith}
 use Rattle.std.proofs.lemmas.List.{get_or-set_same, get_or-set_other, get_or_past, set_past}
 use Rattle.std.proofs.lemmas.Bool.{cases_lt, cases_eq, true≢false, cond_both}
 use Rattle.std.proofs.lemmas.Bool.Decides.{nat_tests}
 use Rattle.blocks.specs.Blocks.{block, member, insert, remove, clear}
 use Rattle.blocks.specs.declared.block.Block.{Block}
-use Rattle.cells.specs.Counts.{none, taken, handles, loose, with_handles, with_loose, admits, one_more, one_looser, admits_strong, admits_weak, with_weak, dying, ownerless}
+use Rattle.cells.specs.Counts.{none, taken, handles, loose, with_handles, with_loose, admits, one_more, one_looser, admits_strong}
+use Rattle.cells.specs.Counts.{admits_weak, with_weak, dying, ownerless}
 use Rattle.cells.specs.Rows.{at}
 use Rattle.cells.specs.declared.row.Counts.{Counts}
 use Rattle.disposal.specs.Books.{Books, none_yet, sole, stray, with_row, left_with, returned, closed, weak_released}
-use Rattle.disposal.specs.Disposal.{World, Disposes, Lists, Releases, Release, disposes, lists_none, lists_next, releases_none, releases_next, empty, strong_stray, strong_lowered, strong_last, weak}
+use Rattle.disposal.specs.Disposal.{World, Disposes, Lists, Releases, Release, disposes, lists_none, lists_next, releases_none}
+use Rattle.disposal.specs.Disposal.{releases_next, empty, strong_stray, strong_lowered, strong_last, weak}
 use Rattle.disposal.specs.declared.store.Receipt.{Receipt}
 use Rattle.element.specs.Handles.{handle_of}
 use Rattle.element.specs.declared.reference.Reference.{Reference}
-use Rattle.element.specs.declared.reference.Reference.TheVariants.{Empty, Strong, Weak}
 use Rattle.element.specs.declared.reference.Sort.{Sort}
 use Rattle.element.specs.declared.reference.Sort.TheVariants as sort
 use Rattle.rc.specs.Ends.{Goes, Unwrapped}
@@ -69,14 +71,17 @@ pub spread : (rows : List Counts) (out : List Block) → housed rows out ≡ tru
 spread rows out h p = subst (λ (j : ℕ). Homed out j (at rows p)) (zero-add p) (to_places 0 rows out h p)
 
 -- the block of a cell
-pub home : (out : List Block) (p : ℕ) (k : Counts) → taken k.state ≡ true → Homed out p k → (member (block p k.size) out ≡ true) × (0 < k.size)
+pub home : (out : List Block) (p : ℕ) (k : Counts) → taken k.state ≡ true → Homed out p k
+    → (member (block p k.size) out ≡ true) × (0 < k.size)
 home out p k t h = grind (arith, nat_tests)
 
 -- One row changes
 
 pub put_row : (rows : List Counts) (out : List Block) (p : ℕ) (k : Counts) → Homed out p k → Housed rows out → Housed (set rows p k) out
 put_row rows out p k h H q =
-    grind (arith, H q, set_past rows p k, get_or-set_same rows p k none, get_or-set_other rows p q k none, cases_eq q p, cases_lt p (length rows))
+    let same = get_or-set_same rows p k none in
+    let apart = get_or-set_other rows p q k none in
+    grind (arith, H q, same, apart, set_past rows p k, cases_eq q p, cases_lt p (length rows))
 
 none_at : (n p : ℕ) → at (replicate n none) p ≡ none
 none_at zero p = refl
@@ -108,7 +113,8 @@ changed_housed test f out keeps rows r H = at_handle (handle_of r)
     at_handle : (o : Option (Sort × ℕ)) → Housed (changed test f rows o) out
     at_handle None = H
     at_handle (Some (s, p)) =
-        cond_both (test s (at rows p)) _ rows (λ z. Housed z out) (λ e. put_row rows out p (f s (at rows p)) (keeps s p (at rows p) (H p)) H) (λ e. H)
+        cond_both (test s (at rows p)) _ rows (λ z. Housed z out)
+        (λ e. put_row rows out p (f s (at rows p)) (keeps s p (at rows p) (H p)) H) (λ e. H)
 
 pub each_housed : (test : Sort → Counts → Bool) (f : Sort → Counts → Counts) (out : List Block) → Homes out f
     → (rows : List Counts) (rs : List Reference) → Housed rows out → Housed (each (λ ks r. changed test f ks (handle_of r)) rows rs) out
@@ -116,7 +122,8 @@ each_housed test f out keeps rows [] H = H
 each_housed test f out keeps rows (r ∷ rs) H =
     each_housed test f out keeps (changed test f rows (handle_of r)) rs (changed_housed test f out keeps rows r H)
 
-pub upto_housed : (f : ℕ → Reference) (n : ℕ) (rows : List Counts) (out : List Block) → Housed rows out → Housed (raised_upto f n rows) out
+pub upto_housed : (f : ℕ → Reference) (n : ℕ) (rows : List Counts) (out : List Block) → Housed rows out
+    → Housed (raised_upto f n rows) out
 unfolding raised_upto
 upto_housed f zero rows out H = H
 upto_housed f (suc n) rows out H =
@@ -125,7 +132,8 @@ upto_housed f (suc n) rows out H =
 -- Blocks that come and go
 
 -- a block more, with a cell in it
-pub made_housed : (rows : List Counts) (out : List Block) (p : ℕ) (k : Counts) → 0 < k.size → Housed rows out → Housed (set rows p k) (insert (block p k.size) out)
+pub made_housed : (rows : List Counts) (out : List Block) (p : ℕ) (k : Counts) → 0 < k.size → Housed rows out
+    → Housed (set rows p k) (insert (block p k.size) out)
 made_housed rows out p k s H =
     put_row rows _ p k (let new = member_new (block p k.size) out in grind (arith, nat_tests))
     (λ q. grind (arith, H q, member_insert (block q (at rows q).size) (block p k.size) out))
@@ -134,7 +142,10 @@ made_housed rows out p k s H =
 gone_housed : (rows : List Counts) (out : List Block) (p s : ℕ) → Housed rows out → Housed (set rows p none) (remove (block p s) out)
 gone_housed rows out p s H q =
     let fewer = member_remove (block q (at rows q).size) (block p s) out in
-    grind (arith, H q, fewer, set_past rows p none, get_or_past rows p none, get_or-set_same rows p none none, get_or-set_other rows p q none none, cases_eq q p, cases_lt p (length rows))
+    let same = get_or-set_same rows p none none in
+    let apart = get_or-set_other rows p q none none in
+    let past = get_or_past rows p none in
+    grind (arith, H q, fewer, same, apart, past, set_past rows p none, cases_eq q p, cases_lt p (length rows))
 
 -- Books
 
@@ -174,15 +185,18 @@ mutual
       let home = dying_home b.meaning.out p (at b.rows p) a (H p) in
       closed_housed v.books p (lists_housed l (put_row b.rows b.meaning.out p (dying (at b.rows p)) home H))
 
-  lists_housed : {E : Type 0} {refs : E → List Reference} {mem xs : List E} {w v : World E} → Lists refs mem xs w v → Homely w.books → Homely v.books
+  lists_housed : {E : Type 0} {refs : E → List Reference} {mem xs : List E} {w v : World E} → Lists refs mem xs w v → Homely w.books
+      → Homely v.books
   lists_housed lists_none H = H
   lists_housed (lists_next h t) H = lists_housed t (releases_housed h H)
 
-  releases_housed : {E : Type 0} {refs : E → List Reference} {mem : List E} {rs : List Reference} {w v : World E} → Releases refs mem rs w v → Homely w.books → Homely v.books
+  releases_housed : {E : Type 0} {refs : E → List Reference} {mem : List E} {rs : List Reference} {w v : World E}
+      → Releases refs mem rs w v → Homely w.books → Homely v.books
   releases_housed releases_none H = H
   releases_housed (releases_next h t) H = releases_housed t (release_housed h H)
 
-  pub release_housed : {E : Type 0} {refs : E → List Reference} {mem : List E} {r : Reference} {w v : World E} → Release refs mem r w v → Homely w.books → Homely v.books
+  pub release_housed : {E : Type 0} {refs : E → List Reference} {mem : List E} {r : Reference} {w v : World E} → Release refs mem r w v
+      → Homely w.books → Homely v.books
   release_housed empty H = H
   release_housed (strong_stray a) H = H
   release_housed (strong_lowered {q = q} {w = w} a n) H = put_row w.books.rows w.books.meaning.out q _ (H q) H
@@ -196,14 +210,18 @@ row_kept w v p k H h e =
     subst AllHoused (sym e)
     (gathered (set w.rows p k) w.meaning.out (put_row w.rows w.meaning.out p k h (spread w.rows w.meaning.out H)))
 
-pub goes_kept : {E : Type 0} {refs : E → List Reference} {memory list list' : List E} {p : ℕ} {w v : worlds.World} {t : Receipt} → Goes refs memory p w list t v list' → AllHoused w → AllHoused v
+pub goes_kept : {E : Type 0} {refs : E → List Reference} {memory list list' : List E} {p : ℕ} {w v : worlds.World} {t : Receipt}
+    → Goes refs memory p w list t v list' → AllHoused w → AllHoused v
 goes_kept {w = w} {v = v} e H = gathered v.rows v.meaning.out (release_housed e.1 (spread w.rows w.meaning.out H))
 
-pub weak_kept : (w v : worlds.World) (p : ℕ) (t : Receipt) → AllHoused w → worlds.books v t ≡ weak_released (worlds.books w none_yet) p → AllHoused v
+pub weak_kept : (w v : worlds.World) (p : ℕ) (t : Receipt) → AllHoused w → worlds.books v t ≡ weak_released (worlds.books w none_yet) p
+    → AllHoused v
 weak_kept w v p t H e =
-    gathered v.rows v.meaning.out (subst Homely (sym e) (weak_released_housed (worlds.books w none_yet) p (spread w.rows w.meaning.out H)))
+    gathered v.rows v.meaning.out
+    (subst Homely (sym e) (weak_released_housed (worlds.books w none_yet) p (spread w.rows w.meaning.out H)))
 
-pub unwrapped_kept : {E : Type 0} (refs : E → List Reference) (w v : worlds.World) (memory : List E) (p : ℕ) (x : E) → AllHoused w → Unwrapped refs w memory p x v → AllHoused v
+pub unwrapped_kept : {E : Type 0} (refs : E → List Reference) (w v : worlds.World) (memory : List E) (p : ℕ) (x : E) → AllHoused w
+    → Unwrapped refs w memory p x v → AllHoused v
 unwrapped_kept refs w v memory p x H e =
     let out = w.meaning.out in
     let b = worlds.books (worlds.with_rows w (each loosened w.rows (refs x))) none_yet in

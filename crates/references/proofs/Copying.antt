@@ -1,7 +1,7 @@
 -- References counted once more, one after the other, and taken back.
-use Rattle.std.proofs.Common.{◌≡◌, ℕ, zero, suc, ◌+◌, ◌-◌, ◌<◌, ◌≤◌, Bool, true, false, ◌||◌, ltb, leb, Some, None, Option, List, length, set, sym, refl, ap, ◌∙◌, ⊎_elim, add-one, arith}
+use Rattle.std.proofs.Common.{◌≡◌, ℕ, zero, suc, ◌+◌, ◌<◌, ◌≤◌, true, false, ◌||◌, Some, None, Option, List, length, refl, ap, ◌∙◌}
+use Rattle.std.proofs.Common.{⊎_elim, add-one, arith}
 use Rattle.std.proofs.lemmas.List.{get_or-set_same, get_or_past, set-set, set-get_or}
-use Rattle.std.proofs.lemmas.Grind.{common_steps}
 use Rattle.std.proofs.lemmas.Bool.{cases_lt, or_left}
 use Rattle.std.proofs.lemmas.Bool.Decides.{nat_tests}
 use Rattle.cells.specs.Counts.{owns, none, admits, one_more, one_less}
@@ -27,12 +27,14 @@ pub overflows_none : (f : ℕ → Reference) (rows : List Counts) → overflows 
 unfolding overflows
 overflows_none f rows = refl
 
-pub overflows_more : (f : ℕ → Reference) (j : ℕ) (rows : List Counts) → overflows f (j + 1) rows ≡ (overflows f j rows || full (raised_upto f j rows) (f j))
+pub overflows_more : (f : ℕ → Reference) (j : ℕ) (rows : List Counts)
+    → overflows f (j + 1) rows ≡ (overflows f j rows || full (raised_upto f j rows) (f j))
 unfolding overflows
 overflows_more f j rows = rw add-one refl
 
 -- what stops early stops the whole
-pub overflows_up : (f : ℕ → Reference) (j : ℕ) (rows : List Counts) (n : ℕ) → overflows f j rows ≡ true → j ≤ n → overflows f n rows ≡ true
+pub overflows_up : (f : ℕ → Reference) (j : ℕ) (rows : List Counts) (n : ℕ) → overflows f j rows ≡ true → j ≤ n
+    → overflows f n rows ≡ true
 unfolding overflows
 overflows_up f j rows zero e h = grind arith
 overflows_up f j rows (suc n) e h =
@@ -66,7 +68,10 @@ undone_at : (rows : List Counts) (o : Option (Sort × ℕ)) → changed admits o
 undone_at rows None = refl
 undone_at rows (Some (s, p)) =
     let k = at rows p in
-    grind (arith, still s k, back s k, admits_none s, get_or_past rows p none, get_or-set_same rows p (one_more s k) none, set-set rows p (one_more s k) k, set-get_or rows p none, cases_lt p (length rows))
+    let up = one_more s k in
+    let here = get_or-set_same rows p up none in
+    let past = get_or_past rows p none in
+    grind (arith, still s k, back s k, admits_none s, here, past, set-set rows p up k, set-get_or rows p none, cases_lt p (length rows))
 
 -- a reference that was counted is taken back
 pub undone : (rows : List Counts) (r : Reference) → lowered (raised rows r) r ≡ rows

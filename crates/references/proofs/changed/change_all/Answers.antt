@@ -1,6 +1,5 @@
 use Rattle.std.proofs.Common.{arith, rules}
 use Rattle.std.proofs.lemmas.Grind.{common_steps}
-use Rattle.element.specs.declared.reference.Reference.TheVariants.{Empty}
 use Rattle.references.proofs.Naming.{each_more}
 use Rattle.references.proofs.changed.change_all.Goals as goal
 

@@ -1,36 +1,34 @@
 -- A loose handle that is held, used and made loose again at one place.
-use Rattle.std.proofs.Common.{◌≡◌, ℕ, ◌+◌, ◌-◌, ◌<◌, Bool, true, false, not, ◌&&◌, eqb, ltb, leb, List, [], ◌∷◌, length, set, Some, None}
-use Rattle.std.proofs.Common.{Ok, Err, Option, Result, sym, refl, ap, ◌∙◌, subst, ap₂, arith}
+use Rattle.std.proofs.Common.{◌≡◌, ℕ, ◌-◌, ◌<◌, Bool, true, false, List, [], ◌∷◌, length, set, Some, None}
+use Rattle.std.proofs.Common.{Ok, Err, Option, Result, sym, refl, ◌∙◌, subst, arith}
 use Rattle.std.specs.Prelude.{IsOk}
 use Rattle.std.proofs.lemmas.List.{get_or-set_same, set-set}
-use Rattle.std.proofs.lemmas.Bool.{and_parts, not-false, ltb-true}
-use Rattle.blocks.specs.Meaning.{Meaning, HandsOut}
-use Rattle.cells.specs.Counts.{none, shared, is_cell, with_loose_strong, with_loose_weak}
+use Rattle.std.proofs.lemmas.Bool.Decides.{nat_tests}
+use Rattle.cells.specs.Counts.{none, shared, is_cell, loose, has_loose, one_more, one_looser, one_held, with_loose_strong}
 use Rattle.cells.specs.Rows.{at}
 use Rattle.cells.specs.declared.row.Counts.{Counts}
 use Rattle.cells.specs.declared.row.Shape.TheVariants.{Single}
 use Rattle.disposal.specs.declared.store.Receipt.{Receipt}
 use Rattle.element.specs.declared.reference.Reference.{Reference}
+use Rattle.element.specs.declared.reference.Sort.{Sort}
+use Rattle.element.specs.declared.reference.Sort.TheVariants.{Strong, Weak as WeakSort}
 use Rattle.rc.specs.Admits.{AdmitsRc, AdmitsWeak}
-use Rattle.rc.specs.Calls.{Made, RcFromRaw, Increment, WeakFromRaw, Downgrade, Upgrade, Upgraded, full_upgrade, held_strong}
-use Rattle.rc.specs.Calls.{loosened_strong, loosened_weak}
-use Rattle.rc.specs.Checks.{first, wrong_memory, no_rc, no_weak, no_loose_strong, no_loose_weak, past_memory, is_slice, slice_cell}
-use Rattle.rc.specs.Checks.{not_sole, full_strong, full_weak}
-use Rattle.rc.specs.Ends.{Decrement, ReleasesWeak, WeakGoes, TryUnwrap, Unwrapped}
+use Rattle.rc.specs.Calls.{Made, RcFromRaw, Increment, WeakFromRaw, Downgrade, Upgrade, Upgraded, full_upgrade, held_at, held_strong}
+use Rattle.rc.specs.Calls.{loosened_at, loosened_strong, loosened_weak}
+use Rattle.rc.specs.Checks.{first, wrong_memory, no_handle, no_rc, no_weak, no_loose, no_loose_strong, no_loose_weak, past_memory}
+use Rattle.rc.specs.Checks.{slice_cell}
+use Rattle.rc.specs.Checks.{not_sole, full, full_strong, full_weak}
+use Rattle.rc.specs.Ends.{Decrement, ReleasesWeak, TryUnwrap}
 use Rattle.rc.specs.Housed.{housed_at, AllHoused}
 use Rattle.rc.specs.Tickets.{ticket_of, place_of}
 use Rattle.rc.specs.Worlds.{World, with_row}
 use Rattle.rc.specs.declared.decline.Decline.{Decline}
 use Rattle.rc.specs.declared.decline.Refused.{Refused}
-use Rattle.rc.specs.Handles.{Rc}
-use Rattle.rc.specs.declared.handle.Ticket.{Ticket}
-use Rattle.rc.specs.Handles.{Weak}
-use Rattle.rc.proofs.Admitted.{hold, loosen, hold_weak, loosen_weak, add_strong, add_weak, held_strong_admitted, held_weak_admitted}
-use Rattle.rc.proofs.Admitted.{weaker_strong, weaker_weak, stronger_strong, stronger_weak}
-use Rattle.rc.proofs.Admitted.{loosened_weak_strong, loosened_strong_weak, cell_within, row_back, row_again, row_here, rc_in_row}
-use Rattle.rc.proofs.Admitted.{weak_in_row, unrefused}
-use Rattle.rc.proofs.Chains.{head_passed, second_passed, past_two}
-use Rattle.rc.proofs.Housed.{row_kept, spread, goes_kept, weak_kept}
+use Rattle.rc.specs.Handles.{Rc, Weak}
+use Rattle.rc.proofs.Admitted.{Admits, other, held_admitted, held_back, more_admitted, given_admitted, given_back, others_still}
+use Rattle.rc.proofs.Admitted.{cell_within, row_back, row_again, row_here, in_row, unrefused}
+use Rattle.rc.proofs.Chains.{past_two}
+use Rattle.rc.proofs.Housed.{row_kept, spread, goes_kept, weak_kept, loose_homes}
 use Rattle.drive.specs.Commands.{Downgrades, Upgrades, Unwraps, one_strong, one_weak}
 
 -- each cell keeps its block where nothing changes
@@ -51,112 +49,139 @@ module _ {E : Type 0} (w : World) (memory : List E) (p : ℕ) (v : World) (H : A
 
   pub decremented_homes : (refs : E → List Reference) (list list' : List E) (r : Result Receipt Decline)
       → Decrement refs w memory list p r v list' → AllHoused v
-  decremented_homes refs list list' (Ok t) d = goes_kept d.1 (kept_homes w (held_strong w p) p hold (λ h. h) refl H)
+  decremented_homes refs list list' (Ok t) d = goes_kept d.1 (kept_homes w (held_strong w p) p (one_held Strong) (λ h. h) refl H)
   decremented_homes refs list list' (Err why) d = same_homes w v d.1.0 H
 
--- what a loose handle at p says of its cell
-record Stands {E : Type 0} (w : World) (memory : List E) (p : ℕ) (loose : ℕ) : Type 0 where
+-- what a loose handle of the sort at p says of its cell
+record Stands {E : Type 0} (s : Sort) (w : World) (memory : List E) (p : ℕ) : Type 0 where
   pub fits : (wrong_memory w memory).0 ≡ false
-  pub cell : (is_cell (at w.rows p) && ltb 0 loose) ≡ true
+  pub some : has_loose s (at w.rows p) ≡ true
+  pub cell : is_cell (at w.rows p) ≡ true
   pub here : p < length w.rows
-  pub some : 0 < loose
 
-stands : {E : Type 0} (w : World) (memory : List E) (p loose : ℕ)
-    → first (wrong_memory w memory ∷ (not (is_cell (at w.rows p) && ltb 0 loose), 4) ∷ []) ≡ 0 → Stands w memory p loose
-stands w memory p loose e =
-    let m = (wrong_memory w memory).0 in
-    let test = is_cell (at w.rows p) && ltb 0 loose in
-    let cell = not-false test (second_passed m (not test) 1 4 (omega arith) (omega arith) e) in
-    let parts = and_parts (is_cell (at w.rows p)) (ltb 0 loose) cell in
-    let fits = head_passed m 1 ((not test, 4) ∷ []) (omega arith) e in
-    record { fits = fits; cell = cell; here = cell_within w.rows p parts.0; some = ltb-true 0 loose parts.1 }
+passed_both : {E : Type 0} (s : Sort) (w : World) (memory : List E) (p : ℕ) → first (wrong_memory w memory ∷ no_loose s w p ∷ []) ≡ 0
+    → ((wrong_memory w memory).0 ≡ false) × (has_loose s (at w.rows p) ≡ true) × (is_cell (at w.rows p) ≡ true)
+passed_both s w memory p e = grind arith
 
--- A strong handle at p, from the world w; u is the world in which it is held.
-module _ {E : Type 0} (w : World) (memory : List E) (p : ℕ) (rc : Rc) (u : World) (told : RcFromRaw w memory p (Ok rc) u) where
-  strong_stands : Stands w memory p (at w.rows p).loose_strong
-  strong_stands = stands w memory p (at w.rows p).loose_strong told.0
+stands : {E : Type 0} (s : Sort) (w : World) (memory : List E) (p : ℕ) → first (wrong_memory w memory ∷ no_loose s w p ∷ []) ≡ 0
+    → Stands s w memory p
+stands s w memory p e =
+    let h = passed_both s w memory p e in
+    record { fits = h.0; some = h.1; cell = h.2; here = cell_within w.rows p h.2 }
 
-  pub at_place : rc.ticket.place ≡ p
-  at_place = ap (λ (z : Ticket). z.place) told.1.0.0
+strong_left : (k : Counts) → has_loose Strong k ≡ true → 0 < k.strong
+strong_left k h = grind (arith, nat_tests)
 
-  pub held_homes : AllHoused w → AllHoused u
-  held_homes = kept_homes w u p hold (λ h. h) told.1.1
+-- A handle of the sort s at p, from the world w; u is the world in which it is held.
+module _ {E : Type 0} (s : Sort) (w : World) (memory : List E) (p : ℕ) (u : World)
+    (passed : first (wrong_memory w memory ∷ no_loose s w p ∷ []) ≡ 0) (is : u ≡ held_at s w p) where
+  homes : AllHoused w → AllHoused u
+  homes = kept_homes w u p (one_held s) (loose_homes w.meaning.out (λ t k. loose t k - 1) s p (at w.rows p)) is
 
-  pub rc_held : AdmitsRc u memory rc.ticket
-  rc_held =
-      let s = strong_stands in
-      rc_in_row w u memory p (hold (at w.rows p)) rc.ticket s.fits s.here told.1.1 told.1.0.0 (held_strong_admitted (at w.rows p) s.cell)
+  held : Admits s u memory (ticket_of w.number p)
+  held =
+      let h = stands s w memory p passed in
+      in_row s w u memory p (one_held s (at w.rows p)) (ticket_of w.number p) h.fits h.here is refl (held_admitted s (at w.rows p) h.some)
 
-  held_row : at u.rows rc.ticket.place ≡ hold (at w.rows p)
-  held_row = ap (at u.rows) at_place ∙ row_here w u p (hold (at w.rows p)) strong_stands.here told.1.1
+  held_row : at u.rows p ≡ one_held s (at w.rows p)
+  held_row = row_here w u p (one_held s (at w.rows p)) (stands s w memory p passed).here is
 
   -- the checks of a call with the handle are those of a call on the place
-  pub checked_again : (more more' : List (Bool × ℕ)) → first more ≡ first more'
-      → first (wrong_memory w memory ∷ no_loose_strong w p ∷ more') ≡ first (wrong_memory u memory ∷ no_rc u rc.ticket ∷ more)
-  checked_again more more' e =
-      past_two (wrong_memory w memory).0 (no_loose_strong w p).0 1 4 more' (omega arith) (omega arith) told.0
-      ∙ sym e ∙ sym (past_two (wrong_memory u memory).0 (no_rc u rc.ticket).0 1 3 more (omega arith) (omega arith) rc_held)
+  again : (more more' : List (Bool × ℕ)) → first more ≡ first more'
+      → first (wrong_memory w memory ∷ no_loose s w p ∷ more') ≡ first (wrong_memory u memory ∷ no_handle s u (ticket_of w.number p) ∷ more)
+  again more more' e =
+      past_two (wrong_memory w memory).0 (no_loose s w p).0 1 4 more' (omega arith) (omega arith) passed
+      ∙ sym e ∙ sym (past_two (wrong_memory u memory).0 (no_handle s u (ticket_of w.number p)).0 1 3 more (omega arith) (omega arith)
+      held)
+
+  full_again : first (wrong_memory w memory ∷ no_loose s w p ∷ full (other s) w p ∷ [])
+      ≡ first (wrong_memory u memory ∷ no_handle s u (ticket_of w.number p) ∷ full (other s) u p ∷ [])
+  full_again = again (full (other s) u p ∷ []) (full (other s) w p ∷ []) (rw (held_row, others_still s (at w.rows p)) refl)
 
   -- made loose with no change, it is as before
+  back : (v : World) → v ≡ loosened_at s u p → v ≡ w
+  back v e =
+      let h = stands s w memory p passed in
+      row_again w u v p (one_held s (at w.rows p)) (one_looser s) h.here is e
+      ∙ rw (held_back s (at w.rows p) h.some) (row_back w p)
+
+  -- One of the other sort is given, in the world a. The first is made loose, in the world b, and then the other, in the world v.
+  module _ (alive : 0 < (at w.rows p).strong) (a : World) (more : a ≡ with_row u p (one_more (other s) (at u.rows p))) where
+    given_is : a ≡ with_row w p (one_more (other s) (one_held s (at w.rows p)))
+    given_is = row_again w u a p (one_held s (at w.rows p)) (one_more (other s)) (stands s w memory p passed).here is more
+
+    stays : Admits s a memory (ticket_of w.number p)
+    stays =
+        let h = stands s w memory p passed in
+        in_row s w a memory p (one_more (other s) (one_held s (at w.rows p))) (ticket_of w.number p) h.fits h.here given_is refl
+        (given_admitted s (at w.rows p) h.some alive)
+
+    module _ (b : World) (loosed : b ≡ loosened_at s a p) where
+      loosed_is : b ≡ with_row w p (one_more (other s) (at w.rows p))
+      loosed_is =
+          let h = stands s w memory p passed in
+          row_again w a b p (one_more (other s) (one_held s (at w.rows p))) (one_looser s) h.here given_is loosed
+          ∙ rw (given_back s (at w.rows p) h.some) refl
+
+      other_stays : Admits (other s) b memory (ticket_of w.number p)
+      other_stays =
+          let h = stands s w memory p passed in
+          in_row (other s) w b memory p (one_more (other s) (at w.rows p)) (ticket_of w.number p) h.fits h.here loosed_is refl
+          (more_admitted (other s) (at w.rows p) h.cell alive)
+
+      both : (v : World) → v ≡ loosened_at (other s) b p → v ≡ with_row w p (one_looser (other s) (one_more (other s) (at w.rows p)))
+      both v e = row_again w b v p (one_more (other s) (at w.rows p)) (one_looser (other s)) (stands s w memory p passed).here loosed_is e
+
+-- A strong one, with its Rc
+module _ {E : Type 0} (w : World) (memory : List E) (p : ℕ) (rc : Rc) (u : World) (told : RcFromRaw w memory p (Ok rc) u) where
+  pub at_place : rc.ticket.place ≡ p
+  at_place = rw told.1.0.0 refl
+
+  pub held_homes : AllHoused w → AllHoused u
+  held_homes = homes Strong w memory p u told.0 told.1.1
+
+  pub rc_held : AdmitsRc u memory rc.ticket
+  rc_held = rw told.1.0.0 (held Strong w memory p u told.0 told.1.1)
+
+  pub checked_again : (more more' : List (Bool × ℕ)) → first more ≡ first more'
+      → first (wrong_memory w memory ∷ no_loose_strong w p ∷ more') ≡ first (wrong_memory u memory ∷ no_rc u rc.ticket ∷ more)
+  checked_again more more' e = rw told.1.0.0 (again Strong w memory p u told.0 told.1.1 more more' e)
+
   pub rc_back : (v : World) → v ≡ loosened_strong u rc.ticket.place → v ≡ w
-  rc_back v e =
-      let s = strong_stands in
-      let k = at w.rows p in
-      let same : k.loose_strong - 1 + 1 ≡ k.loose_strong = let h = s.some in omega arith in
-      row_again w u v p (hold k) loosen s.here told.1.1 (subst (λ (q : ℕ). v ≡ loosened_strong u q) at_place e)
-      ∙ ap (λ (n : ℕ). with_row w p (with_loose_strong k n)) same
-      ∙ row_back w p
+  rc_back v e = back Strong w memory p u told.0 told.1.1 v (rw told.1.0.0 at e)
+
+  alive : 0 < (at w.rows p).strong
+  alive = strong_left (at w.rows p) (stands Strong w memory p told.0).some
 
   -- A Weak is asked for, in the world a, and the Rc is made loose, in the world b.
   module _ (a : World) where
-    given_is : (weak : Weak) → Downgrade u memory rc.ticket (Ok weak) a → a ≡ with_row w p (add_weak (hold (at w.rows p)))
-    given_is weak d =
-        row_again w u a p (hold (at w.rows p)) add_weak strong_stands.here told.1.1
-        (subst (λ (q : ℕ). a ≡ with_row u q (add_weak (at u.rows q))) at_place d.1.1)
-
     pub rc_stays : (r : Result Weak Decline) → Downgrade u memory rc.ticket r a → AdmitsRc a memory rc.ticket
     rc_stays (Ok weak) d =
-        let k = hold (at w.rows p) in
-        let s = strong_stands in
-        rc_in_row w a memory p (add_weak k) rc.ticket s.fits s.here (given_is weak d) told.1.0.0
-        (weaker_strong k (held_strong_admitted (at w.rows p) s.cell))
-    rc_stays (Err why) d = subst (λ (z : World). AdmitsRc z memory rc.ticket) (sym d.1) rc_held
+        let more = rw told.1.0.0 at d.1.1 in
+        rw told.1.0.0 (stays Strong w memory p u told.0 told.1.1 alive a more)
+    rc_stays (Err why) d = rw d.1 rc_held
 
     weak_checks : first (wrong_memory w memory ∷ no_loose_strong w p ∷ full_weak w p ∷ [])
         ≡ first (wrong_memory u memory ∷ no_rc u rc.ticket ∷ full_weak u rc.ticket.place ∷ [])
-    weak_checks =
-        checked_again (full_weak u rc.ticket.place ∷ []) (full_weak w p ∷ [])
-        (ap (λ (k : Counts). first ((eqb k.weak 65535, 9) ∷ [])) held_row)
+    weak_checks = rw told.1.0.0 (full_again Strong w memory p u told.0 told.1.1)
 
     module _ (b : World) (loosed : b ≡ loosened_strong a rc.ticket.place) where
       pub not_downgraded : (why : Decline) → Downgrade u memory rc.ticket (Err why) a → Downgrades w memory p (Err why) b
-      not_downgraded why d =
-          (weak_checks ∙ d.0, rc_back b (loosed ∙ ap (λ (z : World). loosened_strong z rc.ticket.place) d.1))
+      not_downgraded why d = (weak_checks ∙ d.0, rc_back b (rw d.1 at loosed))
 
       module _ (weak : Weak) (d : Downgrade u memory rc.ticket (Ok weak) a) where
         called_is : weak.ticket ≡ Some (ticket_of w.number p)
-        called_is = d.1.0.0 ∙ ap₂ (λ (n q : ℕ). Some (ticket_of n q)) (ap (λ (z : World). z.number) told.1.1) at_place
-
-        loosed_is : b ≡ with_row w p (loosen (add_weak (hold (at w.rows p))))
-        loosed_is =
-            row_again w a b p (add_weak (hold (at w.rows p))) loosen strong_stands.here (given_is weak d)
-            (subst (λ (q : ℕ). b ≡ loosened_strong a q) at_place loosed)
+        called_is = rw (told.1.0.0, told.1.1) at d.1.0.0
 
         pub weak_stays : AdmitsWeak b memory weak.ticket
         weak_stays =
-            let k = hold (at w.rows p) in
-            let s = strong_stands in
-            let h = held_strong_admitted (at w.rows p) s.cell in
-            weak_in_row w b memory p (loosen (add_weak k)) weak.ticket s.fits s.here loosed_is called_is
-            (loosened_strong_weak (add_weak k) (weaker_strong k h) (weaker_weak k h))
+            let more = rw told.1.0.0 at d.1.1 in
+            rw called_is (other_stays Strong w memory p u told.0 told.1.1 alive a more b (rw told.1.0.0 at loosed))
 
         pub both_loose : (v : World) → v ≡ loosened_weak b (place_of weak.ticket) → v ≡ with_row w p (one_weak (at w.rows p))
         both_loose v e =
-            let k = at w.rows p in
-            let same : k.loose_strong - 1 + 1 ≡ k.loose_strong = let h = strong_stands.some in omega arith in
-            row_again w b v p (loosen (add_weak (hold k))) loosen_weak strong_stands.here loosed_is
-            (e ∙ ap (λ (z : Option Ticket). loosened_weak b (place_of z)) called_is)
-            ∙ ap (λ (n : ℕ). with_row w p (with_loose_strong (one_weak k) n)) same
+            let more = rw told.1.0.0 at d.1.1 in
+            both Strong w memory p u told.0 told.1.1 alive a more b (rw told.1.0.0 at loosed) v (rw called_is at e)
 
         pub downgraded : (v : World) → v ≡ loosened_weak b (place_of weak.ticket)
             → Downgrades w memory p (Ok (record { value = Some p; place = p })) v
@@ -164,53 +189,34 @@ module _ {E : Type 0} (w : World) (memory : List E) (p : ℕ) (rc : Rc) (u : Wor
 
   -- The element is asked for, in the world a.
   module _ (refs : E → List Reference) (a : World) where
-    -- the checks after those of the handle
-    after_handle : ℕ → Counts → List (Bool × ℕ)
-    after_handle q k = (leb (length memory) q, 3) ∷ (is_slice k.shape, 5) ∷ (not (eqb k.strong 1), 8) ∷ []
-
     sole_checks : first (wrong_memory w memory ∷ no_loose_strong w p ∷ past_memory memory p ∷ slice_cell w p ∷ not_sole w p ∷ [])
         ≡ first (wrong_memory u memory ∷ no_rc u rc.ticket ∷ past_memory memory rc.ticket.place ∷ slice_cell u rc.ticket.place
         ∷ not_sole u rc.ticket.place ∷ [])
-    unfolding after_handle
     sole_checks =
-        checked_again (after_handle rc.ticket.place (at u.rows rc.ticket.place)) (after_handle p (at w.rows p))
-        (ap₂ (λ (q : ℕ) (k : Counts). first (after_handle q k)) at_place held_row)
+        checked_again (past_memory memory rc.ticket.place ∷ slice_cell u rc.ticket.place ∷ not_sole u rc.ticket.place ∷ [])
+        (past_memory memory p ∷ slice_cell w p ∷ not_sole w p ∷ [])
+        (rw (told.1.0.0, held_row Strong w memory p u told.0 told.1.1) refl)
 
     pub unwrapped : (number : E → ℕ) (x : E) → TryUnwrap refs u memory rc (Ok x) a
         → Unwraps refs number w memory p (Ok (record { value = Some (number x); place = p })) a
-    unwrapped number x d = (
-      sole_checks ∙ d.0,
-      (
-        x,
-        (refl, refl),
-        subst (λ (z : World). Unwrapped refs z memory p x a) told.1.1 (subst (λ (q : ℕ). Unwrapped refs u memory q x a) at_place d.1),
-      ),
-    )
+    unwrapped number x d = (sole_checks ∙ d.0, (x, (refl, refl), rw (told.1.0.0, told.1.1) at d.1))
 
     module _ (back : Refused Rc) (d : TryUnwrap refs u memory rc (Err back) a) where
       pub handle_stays : AdmitsRc a memory back.handle.ticket
-      handle_stays =
-          subst (λ (z : World). AdmitsRc z memory back.handle.ticket) (sym d.2)
-          (subst (λ (z : Rc). AdmitsRc u memory z.ticket) (sym d.1) rc_held)
+      handle_stays = rw (d.2, d.1) rc_held
 
       pub handle_back : (v : World) → v ≡ loosened_strong a back.handle.ticket.place → v ≡ w
-      handle_back v e = rc_back v (e ∙ ap₂ (λ (z : World) (h : Rc). loosened_strong z h.ticket.place) d.2 d.1)
+      handle_back v e = rc_back v (rw (d.2, d.1) at e)
 
       pub not_unwrapped : (number : E → ℕ) (v : World) → v ≡ loosened_strong a back.handle.ticket.place
           → Unwraps refs number w memory p (Err back.why) v
       not_unwrapped number v e = (sole_checks ∙ d.0, handle_back v e)
 
--- A weak handle at p, from the world w; u is the world in which it is held.
+-- A weak one, with its Weak
 module _ {E : Type 0} (w : World) (memory : List E) (p : ℕ) (weak : Weak) (u : World)
     (told : WeakFromRaw w memory (Some p) (Ok weak) u) where
-  weak_stands : Stands w memory p (at w.rows p).loose_weak
-  weak_stands = stands w memory p (at w.rows p).loose_weak told.0
-
   weak_held : AdmitsWeak u memory weak.ticket
-  weak_held =
-      let s = weak_stands in
-      weak_in_row w u memory p (hold_weak (at w.rows p)) weak.ticket s.fits s.here told.1.1 told.1.0.0
-      (held_weak_admitted (at w.rows p) s.cell)
+  weak_held = rw told.1.0.0 (held WeakSort w memory p u told.0 told.1.1)
 
   pub weak_released : (r : Result Receipt (Refused Weak)) (v : World) → ReleasesWeak u memory weak r v → IsOk r
   weak_released (Ok t) v d = refl
@@ -218,64 +224,36 @@ module _ {E : Type 0} (w : World) (memory : List E) (p : ℕ) (weak : Weak) (u :
 
   pub homes_left : AllHoused w → (r : Result Receipt (Refused Weak)) (v : World) → ReleasesWeak u memory weak r v → AllHoused v
   homes_left H (Ok t) v d =
-      weak_kept u v p t (kept_homes w u p hold_weak (λ h. h) told.1.1 H)
-      (subst (λ (z : Option Ticket). WeakGoes u (place_of z) t v) told.1.0.0 d.1).1
-  homes_left H (Err back) v d = same_homes u v d.2 (kept_homes w u p hold_weak (λ h. h) told.1.1 H)
-
-  weak_row : at u.rows p ≡ hold_weak (at w.rows p)
-  weak_row = row_here w u p (hold_weak (at w.rows p)) weak_stands.here told.1.1
+      let goes = rw told.1.0.0 at d.1 in
+      weak_kept u v p t (homes WeakSort w memory p u told.0 told.1.1 H) goes.1
+  homes_left H (Err back) v d = same_homes u v d.2 (homes WeakSort w memory p u told.0 told.1.1 H)
 
   full_checks : first (wrong_memory w memory ∷ no_loose_weak w (Some p) ∷ full_strong w p ∷ [])
       ≡ first (wrong_memory u memory ∷ no_weak u weak.ticket ∷ full_upgrade u weak.ticket ∷ [])
-  full_checks =
-      let t = ticket_of w.number p in
-      past_two (wrong_memory w memory).0 (no_loose_weak w (Some p)).0 1 4 (full_strong w p ∷ []) (omega arith) (omega arith) told.0
-      ∙ sym
-      (ap (λ (z : Option Ticket). first (wrong_memory u memory ∷ no_weak u z ∷ full_upgrade u z ∷ [])) told.1.0.0
-      ∙ past_two (wrong_memory u memory).0 (no_weak u (Some t)).0 1 3 (full_upgrade u (Some t) ∷ []) (omega arith) (omega arith)
-      (subst (λ (z : Option Ticket). AdmitsWeak u memory z) told.1.0.0 weak_held)
-      ∙ ap (λ (k : Counts). first ((eqb k.strong 65535, 9) ∷ [])) weak_row)
-
-  weak_back : (v : World) → v ≡ loosened_weak u (place_of weak.ticket) → v ≡ w
-  weak_back v e =
-      let k = at w.rows p in
-      let same : k.loose_weak - 1 + 1 ≡ k.loose_weak = let h = weak_stands.some in omega arith in
-      row_again w u v p (hold_weak k) loosen_weak weak_stands.here told.1.1
-      (e ∙ ap (λ (z : Option Ticket). loosened_weak u (place_of z)) told.1.0.0)
-      ∙ ap (λ (n : ℕ). with_row w p (with_loose_weak k n)) same
-      ∙ row_back w p
+  full_checks = rw told.1.0.0 (full_again WeakSort w memory p u told.0 told.1.1)
 
   -- An Rc is asked for, in the world a, and the Weak is made loose, in the world b.
   module _ (a : World) where
     none_given : Upgraded u weak.ticket None a → ((at w.rows p).strong ≡ 0) × (a ≡ u)
     none_given e =
-        let up = subst (λ (z : Option Ticket). Upgraded u z None a) told.1.0.0 e in
-        (sym (ap (λ (k : Counts). k.strong) weak_row) ∙ up.0, up.1)
+        let n = rw told.1.0.0 at e in
+        let none : (at u.rows p).strong ≡ 0 = n.0 in
+        (rw (held_row WeakSort w memory p u told.0 told.1.1) at none, n.1)
 
     given : (rc : Rc) → Upgraded u weak.ticket (Some rc) a → Upgraded u (Some (ticket_of w.number p)) (Some rc) a
-    given rc e = subst (λ (z : Option Ticket). Upgraded u z (Some rc) a) told.1.0.0 e
+    given rc e = rw told.1.0.0 at e
 
-    alive : (rc : Rc) → Upgraded u weak.ticket (Some rc) a → 0 < (at w.rows p).strong
-    alive rc e = subst (λ (k : Counts). 0 < k.strong) weak_row (given rc e).0
-
-    raised_is : (rc : Rc) → Upgraded u weak.ticket (Some rc) a → a ≡ with_row w p (add_strong (hold_weak (at w.rows p)))
-    raised_is rc e = row_again w u a p (hold_weak (at w.rows p)) add_strong weak_stands.here told.1.1 (given rc e).2
-
-    unmoved : a ≡ u → AdmitsWeak a memory weak.ticket
-    unmoved e = subst (λ (z : World). AdmitsWeak z memory weak.ticket) (sym e) weak_held
+    alive_still : (rc : Rc) → Upgraded u weak.ticket (Some rc) a → 0 < (at w.rows p).strong
+    alive_still rc e = rw (held_row WeakSort w memory p u told.0 told.1.1) at (given rc e).0
 
     pub weak_still : (r : Result (Option Rc) Decline) → Upgrade u memory weak.ticket r a → AdmitsWeak a memory weak.ticket
-    weak_still (Ok (Some rc)) d =
-        let k = hold_weak (at w.rows p) in
-        let s = weak_stands in
-        weak_in_row w a memory p (add_strong k) weak.ticket s.fits s.here (raised_is rc d.1) told.1.0.0
-        (stronger_weak k (held_weak_admitted (at w.rows p) s.cell) (alive rc d.1))
-    weak_still (Ok None) d = unmoved (none_given d.1).1
-    weak_still (Err why) d = unmoved d.1
+    weak_still (Ok (Some rc)) d = rw told.1.0.0 (stays WeakSort w memory p u told.0 told.1.1 (alive_still rc d.1) a (given rc d.1).2)
+    weak_still (Ok None) d = rw (none_given d.1).1 weak_held
+    weak_still (Err why) d = rw d.1 weak_held
 
     module _ (b : World) (loosed : b ≡ loosened_weak a (place_of weak.ticket)) where
       as_before : a ≡ u → b ≡ w
-      as_before e = weak_back b (loosed ∙ ap (λ (z : World). loosened_weak z (place_of weak.ticket)) e)
+      as_before e = back WeakSort w memory p u told.0 told.1.1 b (rw (e, told.1.0.0) at loosed)
 
       pub not_upgraded : (why : Decline) → Upgrade u memory weak.ticket (Err why) a → Upgrades w memory p (Err why) b
       not_upgraded why d = (full_checks ∙ d.0, as_before d.1)
@@ -285,45 +263,32 @@ module _ {E : Type 0} (w : World) (memory : List E) (p : ℕ) (weak : Weak) (u :
 
       module _ (rc : Rc) (d : Upgrade u memory weak.ticket (Ok (Some rc)) a) where
         ticket_is : rc.ticket ≡ ticket_of w.number p
-        ticket_is = (given rc d.1).1.0 ∙ ap (λ (n : ℕ). ticket_of n p) (ap (λ (z : World). z.number) told.1.1)
-
-        loose_is : b ≡ with_row w p (loosen_weak (add_strong (hold_weak (at w.rows p))))
-        loose_is =
-            row_again w a b p (add_strong (hold_weak (at w.rows p))) loosen_weak weak_stands.here (raised_is rc d.1)
-            (loosed ∙ ap (λ (z : Option Ticket). loosened_weak a (place_of z)) told.1.0.0)
+        ticket_is = rw told.1.1 at (given rc d.1).1.0
 
         pub rc_given : AdmitsRc b memory rc.ticket
         rc_given =
-            let k = hold_weak (at w.rows p) in
-            let s = weak_stands in
-            let h = held_weak_admitted (at w.rows p) s.cell in
-            let l = alive rc d.1 in
-            rc_in_row w b memory p (loosen_weak (add_strong k)) rc.ticket s.fits s.here loose_is ticket_is
-            (loosened_weak_strong (add_strong k) (stronger_weak k h l) (stronger_strong k h l))
+            let loose = rw told.1.0.0 at loosed in
+            rw ticket_is (other_stays WeakSort w memory p u told.0 told.1.1 (alive_still rc d.1) a (given rc d.1).2 b loose)
 
         pub both_settled : (v : World) → v ≡ loosened_strong b rc.ticket.place → v ≡ with_row w p (one_strong (at w.rows p))
         both_settled v e =
-            let k = at w.rows p in
-            let same : k.loose_weak - 1 + 1 ≡ k.loose_weak = let h = weak_stands.some in omega arith in
-            row_again w b v p (loosen_weak (add_strong (hold_weak k))) loosen weak_stands.here loose_is
-            (e ∙ ap (λ (z : Ticket). loosened_strong b z.place) ticket_is)
-            ∙ ap (λ (n : ℕ). with_row w p (with_loose_weak (one_strong k) n)) same
+            let loose = rw told.1.0.0 at loosed in
+            both WeakSort w memory p u told.0 told.1.1 (alive_still rc d.1) a (given rc d.1).2 b loose v (rw ticket_is at e)
 
         pub upgraded : (v : World) → v ≡ loosened_strong b rc.ticket.place
             → Upgrades w memory p (Ok (record { value = Some p; place = p })) v
-        upgraded v e = (full_checks ∙ d.0, (refl, (alive rc d.1, refl, both_settled v e)))
+        upgraded v e = (full_checks ∙ d.0, (refl, (alive_still rc d.1, refl, both_settled v e)))
 
 -- a new cell whose one strong handle is made loose
 pub made_loose : (w u v : World) (rows : List Counts) (q : ℕ) → Made w 1 rows (shared Single 1 1) q u → q < length rows
     → v ≡ loosened_strong u q → Made w 1 rows (with_loose_strong (shared Single 1 1) 1) q v
 made_loose w u v rows q made l e =
     let new = shared Single 1 1 in
+    let number : v.number ≡ u.number = rw e refl in
+    let meaning : v.meaning ≡ u.meaning = rw e refl in
+    let table : v.rows ≡ set u.rows q (one_looser Strong (at u.rows q)) = rw e refl in
     record {
-      block = subst (λ (m : Meaning). HandsOut w.meaning 1 q m) (sym (ap (λ (z : World). z.meaning) e)) made.block;
-      number = ap (λ (z : World). z.number) e ∙ made.number;
-      table =
-          ap (λ (z : World). z.rows) e
-          ∙ ap (λ (z : List Counts). set z q (loosen (at z q))) made.table
-          ∙ ap (λ (j : Counts). set (set rows q new) q (loosen j)) (get_or-set_same rows q new none l)
-          ∙ set-set rows q new (loosen new);
+      block = rw meaning made.block;
+      number = number ∙ made.number;
+      table = table ∙ rw (made.table, get_or-set_same rows q new none l, set-set rows q new (one_looser Strong new)) refl;
     }

@@ -1,10 +1,11 @@
 -- What `make_mut` answers of a held handle, by cases, and that the handle is admitted after it.
 use Rattle.std.proofs.Common.{◌≡◌, ℕ, Bool, true, false, cond, ltb, List, [], ◌∷◌, Some, Ok, Err, MatchBool, Result, sym, refl, ap, ◌∙◌}
-use Rattle.std.proofs.Common.{subst, ap₂}
+use Rattle.std.proofs.Common.{arith}
 use Rattle.std.proofs.lemmas.Bool.{and_parts}
 use Rattle.cells.specs.Counts.{is_cell}
 use Rattle.cells.specs.Rows.{at}
 use Rattle.element.specs.declared.reference.Reference.{Reference}
+use Rattle.element.specs.declared.reference.Sort.TheVariants.{Strong}
 use Rattle.rc.specs.Admits.{AdmitsRc}
 use Rattle.rc.specs.Calls.{RcFromRaw, held_strong, loosened_strong, unfit}
 use Rattle.rc.specs.Checks.{Answers, first, wrong_memory, no_rc, no_loose_strong}
@@ -15,11 +16,12 @@ use Rattle.rc.specs.Worlds.{World}
 use Rattle.rc.specs.declared.decline.Decline.{Decline}
 use Rattle.rc.specs.Handles.{Rc}
 use Rattle.rc.specs.declared.handle.Ticket.{Ticket}
-use Rattle.rc.proofs.Admitted.{rc_stands, rc_admitted}
+use Rattle.rc.proofs.Admitted.{handle_admitted}
+use Rattle.rc.proofs.Chains.{handle_stands}
 use Rattle.rc.proofs.Fresh.{Ready, Fresh, copied_fresh, moved_fresh}
 use Rattle.rc.proofs.Housed.{gathered}
 use Rattle.drive.specs.Commands.{own_checks, Owns, MakesOwn}
-use Rattle.drive.proofs.Held.{at_place, checked_again, rc_back}
+use Rattle.drive.proofs.Held.{checked_again, rc_back}
 
 -- the three ways, as one list of checks
 abbrev ways : Bool → Bool → Bool × ℕ → Bool × ℕ → List (Bool × ℕ)
@@ -32,15 +34,11 @@ Ways a b c d f n r X Y Z D =
 
 ways_declined : (a b : Bool) (c d f n : Bool × ℕ) (why : Decline) (X Y Z D : Type 0) → Ways a b c d f n (Err why) X Y Z D
     → (first (c ∷ d ∷ ways a b f n) ≡ number_of why) × D
-ways_declined true b c d f n why X Y Z D h = h
-ways_declined false true c d f n why X Y Z D h = h
-ways_declined false false c d f n why X Y Z D h = h
+ways_declined a b c d f n why X Y Z D h = grind arith
 
 ways_accepted : (a b : Bool) (c d f n : Bool × ℕ) (x : Unit {0}) (X Y Z D : Type 0) → Ways a b c d f n (Ok x) X Y Z D
     → (first (c ∷ d ∷ ways a b f n) ≡ 0) × MatchBool a X (MatchBool b Y Z)
-ways_accepted true b c d f n x X Y Z D h = h
-ways_accepted false true c d f n x X Y Z D h = h
-ways_accepted false false c d f n x X Y Z D h = h
+ways_accepted a b c d f n x X Y Z D h = grind arith
 
 each_way : (a b : Bool) (X Y Z X' Y' Z' : Type 0) → (X → X') → (Y → Y') → (Z → Z') → MatchBool a X (MatchBool b Y Z)
     → MatchBool a X' (MatchBool b Y' Z')
@@ -95,14 +93,13 @@ module _ {E : Type 0} (refs : E → List Reference) (w : World) (memory : List E
 
   same_kept : AllHoused w → AdmitsRc w memory rc.ticket → Same → Kept
   same_kept h a x = (
-    subst (λ (z : World). AdmitsRc z memory' rc'.ticket) (sym x.0)
-        (subst (λ (z : List E). AdmitsRc w z rc'.ticket) (sym x.1) (subst (λ (z : Rc). AdmitsRc w memory z.ticket) (sym x.2) a)),
-    subst AllHoused (sym x.0) h,
+    rw (x.0, x.1, x.2) a,
+    rw x.0 h,
   )
 
   from_fresh : MovedTo w rc rc' → Fresh w v memory' rc'.ticket.place → Kept
   from_fresh to f = (
-    rc_admitted v memory' rc'.ticket f.fits (ap (λ (t : Ticket). t.census) to.0 ∙ sym f.number) f.strong,
+    handle_admitted Strong v memory' rc'.ticket f.fits (ap (λ (t : Ticket). t.census) to.0 ∙ sym f.number) f.strong,
     gathered v.rows v.meaning.out f.homes,
   )
 
@@ -111,8 +108,8 @@ module _ {E : Type 0} (refs : E → List Reference) (w : World) (memory : List E
       let p = rc.ticket.place in
       let q = rc'.ticket.place in
       let k = at w.rows p in
-      let s = rc_stands w memory rc.ticket adm in
-      let cell = (and_parts (is_cell k) _ s.strong).0 in
+      let s = handle_stands Strong w memory rc.ticket adm in
+      let cell = (and_parts (is_cell k) _ s.admitted).0 in
       one_way (ltb 1 k.strong) (ltb 1 k.weak) Copy Move Same Kept
       (λ x. from_fresh x.0 (copied_fresh w memory memory' p q v can cell s.memory_fits refs x.1))
       (λ x. from_fresh x.0 (moved_fresh w memory memory' p q v can cell s.memory_fits x.1))
@@ -132,19 +129,17 @@ module _ {E : Type 0} (refs : E → List Reference) (w : World) (memory : List E
       ≡ first (wrong_memory u memory ∷ no_rc u rc.ticket ∷ own_checks refs u memory rc.ticket.place)
   own_checks_again =
       checked_again w memory p rc u told (own_checks refs u memory rc.ticket.place) (own_checks refs (held_strong w p) memory p)
-      (ap₂ (λ (z : World) (n : ℕ). first (own_checks refs z memory n)) told.1.1 (at_place w memory p rc u told))
+      (rw (told.1.0.0, told.1.1) refl)
 
   pub not_owned : (why : Decline) → MakeMut refs u memory rc (Err why) a memory' rc' → MakesOwn refs w memory p (Err why) b memory'
   not_owned why h =
       let back = declined refs u memory rc a memory' rc' why h in
-      let after = loosed ∙ ap₂ (λ (z : World) (h : Rc). loosened_strong z h.ticket.place) back.1.0 back.1.2 in
-      (own_checks_again ∙ back.0, (rc_back w memory p rc u told b after, back.1.1))
+      (own_checks_again ∙ back.0, (rc_back w memory p rc u told b (rw (back.1.0, back.1.2) at loosed), back.1.1))
 
   pub owned : (x : Unit {0}) → MakeMut refs u memory rc (Ok x) a memory' rc'
       → MakesOwn refs w memory p (Ok (record { value = Some rc'.ticket.place; place = rc'.ticket.place })) b memory'
   owned x h =
       let q = rc'.ticket.place in
       let done = accepted refs u memory rc a memory' rc' x h in
-      let here = subst (λ (n : ℕ). Owns refs u memory n q a memory') (at_place w memory p rc u told)
-      (owns refs u memory rc a memory' rc' done.1) in
-      (own_checks_again ∙ done.0, ((refl, refl), (a, subst (λ (z : World). Owns refs z memory p q a memory') told.1.1 here, loosed)))
+      let here = owns refs u memory rc a memory' rc' done.1 in
+      (own_checks_again ∙ done.0, ((refl, refl), (a, rw (told.1.0.0, told.1.1) at here, loosed)))

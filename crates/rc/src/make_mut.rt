@@ -50,6 +50,7 @@ fn copy_one<E: Element>(memory: &mut [E], from: usize, to: usize)
 
 /// Copies `n` elements within the memory, first to last. One by one: the slice's own `copy_within`
 /// asks that both parts lie inside it, and what a table says of a cell does not show that.
+#[tactic(auto, using(crate::proofs::Making::copied_more), unfolding(crate::specs::Ends::copied))]
 fn copy_within<E: Element>(memory: &mut [E], from: u32, to: u32, n: u16)
     ensures { memory.new ≡ copied memory.old from to n }
 {

@@ -46,6 +46,7 @@ fn nth<E: Element>(memory: &[E], from: u32, j: u32) -> Reference
 }
 
 /// Takes the first `count` references of the elements from `from` on back, the last one first.
+#[tactic(auto, using(crate::proofs::Copying::upto_steps))]
 pub fn lower_all<E: Element>(table: &mut Table, memory: &[E], from: u32, count: u32)
     ensures { (rows : List Counts) → overflows (nth E.refs memory.now from) count rows ≡ false → counts_in table.old ≡ raised_upto (nth E.refs memory.now from) count rows → counts_in table.new ≡ rows }
 {
@@ -56,6 +57,7 @@ pub fn lower_all<E: Element>(table: &mut Table, memory: &[E], from: u32, count: 
 
 /// Counts the references of the `n` elements from `from` on once more; where some count would be
 /// passed, nothing changes.
+#[tactic(auto, using(crate::proofs::Copying::upto_steps))]
 pub fn raise_all<E: Element>(
     table: &mut Table,
     memory: &[E],

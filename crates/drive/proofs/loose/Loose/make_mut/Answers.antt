@@ -3,7 +3,8 @@ use Rattle.std.proofs.lemmas.Result.{err_from_is_err_and}
 use Rattle.rc.specs.Calls.{held_strong}
 use Rattle.rc.specs.Checks.{wrong_memory, no_loose_strong}
 use Rattle.rc.specs.Worlds.{world}
-use Rattle.rc.proofs.Admitted.{loosen}
+use Rattle.cells.specs.Counts.{one_looser}
+use Rattle.element.specs.declared.reference.Sort.TheVariants.{Strong}
 use Rattle.rc.proofs.Chains.{stopped}
 use Rattle.rc.proofs.Fresh.{ready}
 use Rattle.drive.specs.Commands.{own_checks}
@@ -49,7 +50,7 @@ invariant_of-self-2 g c =
     let kept = rc_kept g.E.Element.refs u memory rc a c.make_mut-made.new.memory c.make_mut-made.new.rc
     can homes (rc_held w memory c.args.place rc u c.in_ok-rc.ensures) c.make_mut-made.result c.make_mut-made.ensures in
     record {
-      homes = kept_homes a (world m c.settle-own.new.census) c.make_mut-made.new.rc.ticket.place loosen (λ h. h)
+      homes = kept_homes a (world m c.settle-own.new.census) c.make_mut-made.new.rc.ticket.place (one_looser Strong) (λ h. h)
           c.settle-own.ensures.after kept.1;
     }
 

@@ -12,7 +12,8 @@ returns-in_err-cell g c =
     let t = c.args.ticket in
     let memory = c.args.memory.now in
     rw (p.1, p.2) (
-      stopped (wrong_memory w memory ∷ no_rc w t ∷ []) (past_memory memory t.place ∷ slice_cell w t.place ∷ not_sole w t.place ∷ []) c.in_err-cell.field-0.0
+      stopped (wrong_memory w memory ∷ no_rc w t ∷ []) (past_memory memory t.place ∷ slice_cell w t.place ∷ not_sole w t.place ∷ [])
+          c.in_err-cell.field-0.0
           c.in_err-cell.ensures.0,
       tt,
     )

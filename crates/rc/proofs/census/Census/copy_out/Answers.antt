@@ -1,12 +1,10 @@
-use Rattle.std.proofs.Common.{◌≡◌, ◌*◌, false, not, List, [], ◌∷◌, ap, ◌∙◌, subst}
+use Rattle.std.proofs.Common.{◌≡◌, ◌*◌, false, List, ap, ◌∙◌, subst, arith}
 use Rattle.cells.specs.Counts.{shared}
-use Rattle.cells.specs.Rows.{at}
 use Rattle.cells.specs.declared.row.Counts.{Counts}
-use Rattle.rc.specs.Calls.{Made, unfit}
+use Rattle.rc.specs.Calls.{Made}
 use Rattle.rc.specs.Ends.{copied}
 use Rattle.references.specs.References.{nth, raised_upto, overflows}
 use Rattle.rc.specs.Worlds.{World, world, with_rows}
-use Rattle.rc.proofs.Chains.{past}
 use Rattle.rc.proofs.Making.{made}
 use Rattle.rc.proofs.census.Census.copy_out.Goals as goal
 
@@ -22,9 +20,12 @@ returns g c =
     let up = c.in_ok-raise_all.ensures in
     let upto = λ (k : Counts). raised_upto f (4 * k.standing) w.rows in
     let whole = λ (k : Counts). Made w k.size (upto k) (shared k.shape k.size k.standing) q between in
-    let stands = subst whole c.requires (made w u between c.args.counts.size (upto c.args.counts) (shared c.args.counts.shape c.args.counts.size c.args.counts.standing) q told.0 told.1 (told.2 ∙ up.1) c.stand_copy.ensures.world) in
-    let safe : overflows f (4 * (at w.rows p).standing) w.rows ≡ false = subst (λ (k : Counts). overflows f (4 * k.standing) w.rows ≡ false) c.requires up.0 in (
-      past _ 9 (unfit w (at w.rows p).size ∷ []) safe ∙ past _ 10 [] (ap not stands.block.fitted),
+    let stands = subst whole c.requires
+    (made w u between c.args.counts.size (upto c.args.counts) (shared c.args.counts.shape c.args.counts.size c.args.counts.standing) q
+    told.0 told.1 (told.2 ∙ up.1) c.stand_copy.ensures.world) in
+    let over = λ (k : Counts). overflows f (4 * k.standing) w.rows ≡ false in
+    let safe = subst over c.requires up.0 in (
+      grind (arith, safe, stands.block.fitted),
       record {
         between = between;
         made = stands;

@@ -25,5 +25,6 @@ returns-in_err-counts g c =
     rw (r.1, r.2) (
     both (ltb 1 (at w.rows p).strong) _ _
     (stopped admit (full_copy g.E.Element.refs w memory p ∷ unfit w (at w.rows p).size ∷ []) d e, (refl, refl, refl))
-    (both (ltb 1 (at w.rows p).weak) _ _ (stopped admit (unfit w (at w.rows p).size ∷ []) d e, (refl, refl, refl)) (e, (refl, refl, refl)))
+    (both (ltb 1 (at w.rows p).weak) _ _ (stopped admit (unfit w (at w.rows p).size ∷ []) d e, (refl, refl, refl))
+    (e, (refl, refl, refl)))
     )

@@ -1,10 +1,9 @@
-use Rattle.std.proofs.Common.{not, [], ap, ◌∙◌, subst}
+use Rattle.std.proofs.Common.{ap, ◌∙◌, subst, arith}
 use Rattle.cells.specs.Counts.{shared}
 use Rattle.cells.specs.declared.row.Counts.{Counts}
 use Rattle.rc.specs.Calls.{Made}
 use Rattle.rc.specs.Ends.{copied}
 use Rattle.rc.specs.Worlds.{world}
-use Rattle.rc.proofs.Chains.{past}
 use Rattle.rc.proofs.Making.{made}
 use Rattle.rc.proofs.census.Census.move_out.Goals as goal
 
@@ -17,8 +16,10 @@ returns g c =
     let q = c.in_ok-q.q in
     let told = c.in_ok-q.ensures in
     let whole = λ (k : Counts). Made w k.size w.rows (shared k.shape k.size k.standing) q between in
-    let stands = subst whole c.requires (made w u between c.args.counts.size w.rows (shared c.args.counts.shape c.args.counts.size c.args.counts.standing) q told.0 told.1 told.2 c.stand_copy.ensures.world) in (
-      past _ 10 [] (ap not stands.block.fitted),
+    let stands = subst whole c.requires
+    (made w u between c.args.counts.size w.rows (shared c.args.counts.shape c.args.counts.size c.args.counts.standing) q told.0 told.1
+    told.2 c.stand_copy.ensures.world) in (
+      grind (arith, stands.block.fitted),
       record {
         between = between;
         made = stands;

@@ -1,9 +1,24 @@
 -- What a list of blocks is after one is put in or taken out.
-use Rattle.std.specs.Prelude.{◌≡◌, ℕ, ◌+◌, ◌<◌, ◌≤◌, true, List, [], ◌∷◌, length, refl}
-use Rattle.std.proofs.Common.{arith}
+use Rattle.std.specs.Prelude.{◌≡◌, ℕ, ◌+◌, ◌<◌, ◌≤◌, true, false, List, [], ◌∷◌, length, ◌==◌, ◌≢◌, refl}
+use Rattle.std.proofs.Common.{ap, ⊎_elim, arith}
+use Rattle.std.proofs.lemmas.Bool.{cases_Bool, eqb-true, and_parts}
 use Rattle.std.proofs.lemmas.Grind.{common_steps}
 use Rattle.blocks.specs.declared.block.Block.{Block}
-use Rattle.blocks.specs.Blocks.{Apart, total, member, insert, remove, clear}
+use Rattle.blocks.specs.Blocks.{Apart, total, same, member, insert, remove, clear}
+
+-- the test tells blocks apart
+pub same_is : (x y : Block) → same x y ≡ true → x ≡ y
+same_is x y e =
+    let t = and_parts (x.offset == y.offset) (x.len == y.len) e in
+    λ i. record { offset = eqb-true x.offset y.offset t.0 i; len = eqb-true x.len y.len t.1 i }
+
+pub not_same : (x y : Block) → (x.offset ≡ y.offset → x.len ≢ y.len) → same x y ≡ false
+not_same x y f =
+    ⊎_elim
+    (λ (e : same x y ≡ true). let t = same_is x y e in absurd
+    (f (ap (λ (b : Block). b.offset) t) (ap (λ (b : Block). b.len) t)))
+    (λ (e : same x y ≡ false). e)
+    (cases_Bool (same x y))
 
 pub total_insert : (x : Block) (bs : List Block) → total (insert x bs) ≡ x.len + total bs
 total_insert x [] = refl

@@ -1,16 +1,38 @@
 -- That the blocks out are apart, from what each allocator keeps.
-use Rattle.std.specs.Prelude.{ℕ, suc, ◌+◌, ◌*◌, ◌<◌, ◌≤◌, List, [], ◌∷◌}
-use Rattle.std.proofs.Common.{get_or, suc-mul, arith}
+use Rattle.std.specs.Prelude.{◌≡◌, ℕ, zero, suc, ◌+◌, ◌*◌, ◌<◌, ◌≤◌, List, [], ◌∷◌, refl}
+use Rattle.std.proofs.Common.{ltb, ◌⊎◌, get_or, inl, inr, suc-mul, arith}
 use mathlib.Core.HLevel.{×₃_prop}
+use mathlib.Core.Logic.{∥∥₁_elim}
 use native.Mathlib.Bridge.{le_prop}
+use Rattle.std.proofs.lemmas.Bool.{cond-true, cond-false, lt-ltb, le-ltb}
 use Rattle.std.proofs.lemmas.Grind.{common_steps}
 use Rattle.blocks.specs.declared.block.Block.{Block}
-use Rattle.blocks.specs.Blocks.{Apart}
+use Rattle.blocks.specs.Blocks.{block, Apart}
 use Rattle.blocks.specs.Slots.{slots_out}
 
 pub apart_prop : (extent from : ℕ) (bs : List Block) → IsProp (Apart extent from bs)
 apart_prop extent from [] = le_prop
 apart_prop extent from (b ∷ bs) = ×₃_prop le_prop le_prop (apart_prop extent (b.offset + b.len) bs)
+
+pub apart_of : (extent from : ℕ) (bs : List Block) → ∥ Apart extent from bs ∥₁ → Apart extent from bs
+apart_of extent from bs a = ∥∥₁_elim a (apart_prop extent from bs) (λ x. x)
+
+pub none_or_some : (s : ℕ) → (s ≡ 0) ⊎ (0 < s)
+none_or_some zero = inl refl
+none_or_some (suc s) = inr (omega arith)
+
+pub slot_free : (unit at s : ℕ) (ss : List ℕ) → s ≡ 0 → slots_out unit at (s ∷ ss) ≡ slots_out unit (at + unit) ss
+unfolding slots_out
+slot_free unit at s ss e = cond-false (ltb 0 s) _ _ (le-ltb 0 s (omega arith))
+
+pub slot_taken : (unit at s : ℕ) (ss : List ℕ) → 0 < s
+    → slots_out unit at (s ∷ ss) ≡ block at s ∷ slots_out unit (at + unit) ss
+unfolding slots_out
+slot_taken unit at s ss l = cond-true (ltb 0 s) _ _ (lt-ltb 0 s l)
+
+pub slots_end : (unit at : ℕ) → slots_out unit at [] ≡ []
+unfolding slots_out
+slots_end unit at = refl
 
 pub slots_apart : (unit extent at from : ℕ) (ss : List ℕ) → from ≤ at → from ≤ extent
     → ((k : ℕ) → get_or ss k 0 ≤ unit) → ((k : ℕ) → 0 < get_or ss k 0 → at + k * unit + unit ≤ extent)

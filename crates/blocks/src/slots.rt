@@ -8,8 +8,8 @@ const SLOTS: usize = 1024;
 /// For each slot the length of the block in it, and 0 where the slot is free.
 #[derive(Drop)]
 pub(crate) struct Slots {
-    // No block has length 0: an `Option` would say free in two ways, `None` and `Some(0)`. An array,
-    // since no call may allocate.
+    // No block has length 0: an `Option` would say free in two ways, `None` and `Some(0)`. An array:
+    // every slot has one, and no call may allocate.
     lens: [u16; SLOTS],
     ghost full: { length lens ≡ 1024 },
 }

@@ -1,13 +1,13 @@
 //! The rows of a census by place.
 
-ghost use Rattle.std.specs.Prelude.{◌≡◌, ℕ, ◌+◌, ◌≤◌, true, length, replicate, slice_set};
+ghost use Rattle.std.specs.Prelude.{◌≡◌, true, length, replicate, slice_set};
 ghost use Rattle.cells.specs.Counts.{none};
-ghost use Rattle.cells.specs.Rows.{at, link_at, at_rest, counts_of, links_of, standing_in, free_row, small};
+ghost use Rattle.cells.specs.Rows.{at, link_at, at_rest, counts_of, links_of, standing_in, small};
 
 use crate::row::{Link, Row};
 
-/// A row for each place that a memory can have, and how many elements stand in all of them. An array,
-/// since no call may allocate.
+/// A row for each place that a memory can have, and how many elements stand in all of them. An array:
+/// every place has a row, and no call may allocate.
 #[derive(Drop)]
 pub struct Table {
     rows: [Row; 1024],

@@ -1,6 +1,7 @@
 //! The walk over the cells under disposal. Each has a link to the one that it was released from,
 //! so that the walk needs no room of its own; a turn of it lists one element, releases one
 //! reference or closes one cell.
+// Each contract asks for `room`, as those of the counts do.
 // The list and the receipt are passed apart: with a struct of both, `release` and `dispose` get no generated proof.
 
 ghost use Rattle.std.specs.Prelude.{◌≡◌, ◌<◌, ◌≤◌, slice_set};

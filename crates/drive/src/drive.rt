@@ -8,7 +8,7 @@ use element::Note;
 pub(crate) const PLACES: usize = 8;
 
 /// A census over eight places, whose handles are all loose between lines. The memory and the list are
-/// arrays, since no call may allocate.
+/// arrays: every place has a note, and no call may allocate.
 pub struct Drive {
     pub(crate) loose: Loose<FirstFit>,
     pub(crate) memory: [Note; PLACES],

@@ -12,7 +12,8 @@ use blocks::Allocator;
 use element::{Element, Note};
 use rc::{Census, Decline, Refused};
 
-/// A census whose handles are all loose between commands, so that each cell has its block.
+/// A census whose handles are all loose between commands, so that each cell has its block. It is lent
+/// the memory, as every census is.
 pub(crate) struct Loose<A: Allocator> {
     pub(crate) census: Census<A>,
     ghost homes: { AllHoused (world A.meaning census) },

@@ -11,9 +11,8 @@ use Rattle.element.specs.declared.reference.Sort.{Sort}
 use Rattle.element.specs.declared.reference.Sort.TheVariants as sort
 use Rattle.rc.specs.declared.decline.Decline.{Decline}
 use Rattle.rc.specs.declared.decline.Refused.{Refused}
-use Rattle.rc.specs.Handles.{Rc}
+use Rattle.rc.specs.Handles.{Rc, Weak}
 use Rattle.rc.specs.declared.handle.Ticket.{Ticket}
-use Rattle.rc.specs.Handles.{Weak}
 use Rattle.rc.specs.Checks.{Answers, Spends, wrong_memory, no_rc, no_weak, no_loose_strong, no_loose_weak, no_strong, full_strong, full_weak}
 use Rattle.rc.specs.Declines.{number_of}
 use Rattle.references.specs.References.{some_lacking, each, held}

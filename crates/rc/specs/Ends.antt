@@ -17,8 +17,7 @@ use Rattle.rc.specs.declared.make_mut.Way.{Way}
 use Rattle.rc.specs.declared.make_mut.Way.TheVariants.{Copy, Move, Stay}
 use Rattle.rc.specs.declared.decline.Decline.{Decline}
 use Rattle.rc.specs.declared.decline.Refused.{Refused}
-use Rattle.rc.specs.Handles.{Rc}
-use Rattle.rc.specs.Handles.{Weak}
+use Rattle.rc.specs.Handles.{Rc, Weak}
 
 -- Releases
 

@@ -3,7 +3,7 @@
 ghost use Rattle.std.specs.Prelude.{◌≡◌, [], ◌∷◌, take, drop};
 ghost use Rattle.cells.specs.Rows.{at};
 ghost use Rattle.element.specs.declared.reference.Sort.TheVariants.{Strong};
-ghost use Rattle.rc.specs.Checks.{Answers, wrong_memory, short_list, no_handle, no_rc, no_weak, no_loose, no_loose_strong, no_strong, past_memory, slice_cell, not_sole};
+ghost use Rattle.rc.specs.Checks.{Answers, wrong_memory, short_list, no_handle, no_rc, no_weak, no_loose, no_strong, past_memory, slice_cell, not_sole};
 ghost use Rattle.rc.specs.Worlds.{world, IsCellOf};
 
 use crate::census::Census;

@@ -15,7 +15,7 @@ use disposal::write_at;
 use element::{Element, Reference, Sort};
 use references::{lower, lower_all, raise_all};
 
-/// How a handle comes to a cell of its own.
+/// How a handle comes to a cell of its own: a type, so that the choice has a contract.
 #[derive(Clone, Copy)]
 enum Way {
     /// Another strong handle is out: the elements are copied.

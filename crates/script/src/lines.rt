@@ -20,7 +20,7 @@ pub struct Line {
 /// Why a text is no line: the first of these that is wrong.
 #[derive(Clone, Copy, PartialEq, Eq, Debug)]
 pub enum LineError {
-    /// It is not one letter and a space, and then more.
+    /// It does not begin with one byte and a space.
     Malformed,
     /// Its letter names no command.
     Letter(UnknownLetter),

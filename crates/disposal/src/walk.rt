@@ -43,7 +43,8 @@ impl<A: Allocator> Store<A> {
         }
     }
 
-    /// Releases the next reference of the element that was listed last.
+    /// Releases the next reference of the element that was listed last. The place and its link go
+    /// together through a turn, and not as one: each of the three takes them apart again.
     fn turn_reference<E: Element>(
         &mut self,
         memory: &[E],

@@ -44,9 +44,13 @@ with_rows w rows = record { number = w.number; meaning = w.meaning; rows = rows 
 abbrev pub after : World → Books → World
 after w b = record { number = w.number; meaning = b.meaning; rows = b.rows }
 
+-- the cell at p
+abbrev pub IsCellAt : World → ℕ → Cell → Type 0
+IsCellAt w p c = c.counts ≡ at w.rows p
+
 -- the cell of a `Weak`, and none of an empty one
 abbrev pub IsCellOf : World → Option Ticket → Option Cell → Type 0
 IsCellOf w None None = Unit {0}
 IsCellOf w None (Some c) = ⊥
 IsCellOf w (Some t) None = ⊥
-IsCellOf w (Some t) (Some c) = c.counts ≡ at w.rows t.place
+IsCellOf w (Some t) (Some c) = IsCellAt w t.place c

@@ -1,10 +1,9 @@
 //! The checks of the calls, each in one place.
 
 ghost use Rattle.std.specs.Prelude.{◌≡◌, [], ◌∷◌, take, drop};
-ghost use Rattle.cells.specs.Rows.{at};
 ghost use Rattle.element.specs.declared.reference.Sort.TheVariants.{Strong};
 ghost use Rattle.rc.specs.Checks.{Answers, wrong_memory, short_list, no_handle, no_rc, no_weak, no_loose, no_strong, past_memory, slice_cell, not_sole};
-ghost use Rattle.rc.specs.Worlds.{world, IsCellOf};
+ghost use Rattle.rc.specs.Worlds.{world, IsCellAt, IsCellOf};
 
 use crate::census::Census;
 use crate::decline::Decline;
@@ -38,7 +37,7 @@ impl<A: Allocator> Census<A> {
 
     /// 3: a cell of this census admits the handle.
     pub(crate) fn check_handle(&self, sort: Sort, ticket: Ticket) -> Result<Cell, Decline>
-        ensures { Answers (no_handle sort (world A.meaning self.now) ticket ∷ []) result (λ c. c.counts ≡ at (world A.meaning self.now).rows ticket.place) (Unit {0}) }
+        ensures { Answers (no_handle sort (world A.meaning self.now) ticket ∷ []) result (IsCellAt (world A.meaning self.now) ticket.place) (Unit {0}) }
     {
         if ticket.census != self.number {
             return Err(Decline::Handle);
@@ -50,7 +49,7 @@ impl<A: Allocator> Census<A> {
 
     /// 4: a handle of the sort is loose at `place`.
     pub(crate) fn check_loose(&self, sort: Sort, place: u32) -> Result<Cell, Decline>
-        ensures { Answers (no_loose sort (world A.meaning self.now) place ∷ []) result (λ c. c.counts ≡ at (world A.meaning self.now).rows place) (Unit {0}) }
+        ensures { Answers (no_loose sort (world A.meaning self.now) place ∷ []) result (IsCellAt (world A.meaning self.now) place) (Unit {0}) }
     {
         self.cell(place)
             .filter(|cell| cell.counts.loose(sort) > 0)
@@ -59,7 +58,7 @@ impl<A: Allocator> Census<A> {
 
     /// 4: a strong handle is out at `place`.
     pub(crate) fn check_strong(&self, place: u32) -> Result<Cell, Decline>
-        ensures { Answers (no_strong (world A.meaning self.now) place ∷ []) result (λ c. c.counts ≡ at (world A.meaning self.now).rows place) (Unit {0}) }
+        ensures { Answers (no_strong (world A.meaning self.now) place ∷ []) result (IsCellAt (world A.meaning self.now) place) (Unit {0}) }
     {
         self.cell(place)
             .filter(|cell| cell.counts.strong > 0)
@@ -73,7 +72,7 @@ impl<A: Allocator> Census<A> {
         sort: Sort,
         ticket: Ticket,
     ) -> Result<Cell, Decline>
-        ensures { Answers (wrong_memory (world A.meaning self.now) memory.now ∷ no_handle sort (world A.meaning self.now) ticket ∷ []) result (λ c. c.counts ≡ at (world A.meaning self.now).rows ticket.place) (Unit {0}) }
+        ensures { Answers (wrong_memory (world A.meaning self.now) memory.now ∷ no_handle sort (world A.meaning self.now) ticket ∷ []) result (IsCellAt (world A.meaning self.now) ticket.place) (Unit {0}) }
     {
         self.check_memory(memory)?;
         self.check_handle(sort, ticket)

@@ -47,7 +47,6 @@ fn nth<E: Element>(memory: &[E], from: u32, j: u32) -> Reference
 
 /// Takes the first `count` references of the elements from `from` on back, the last one first. By
 /// number, as they were counted.
-#[tactic(auto, using(crate::proofs::Copying::upto_steps))]
 pub fn lower_all<E: Element>(table: &mut Table, memory: &[E], from: u32, count: u32)
     ensures { (rows : List Counts) → overflows (nth E.refs memory.now from) count rows ≡ false → counts_in table.old ≡ raised_upto (nth E.refs memory.now from) count rows → counts_in table.new ≡ rows }
 {

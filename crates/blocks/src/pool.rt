@@ -47,7 +47,7 @@ impl Pool {
             (self.now.extent / self.now.unit)
             self.now.slots.lens result }
     {
-        (0..self.extent / self.unit).find(|&k| self.slots.get(k) == 0)
+        self.slots.lowest_free(self.extent / self.unit)
     }
 
     // The slot of a block that is out.

@@ -1,7 +1,7 @@
 //! The slots of a pool.
 
-ghost use Rattle.std.specs.Prelude.{◌≡◌, ℕ, ◌<◌, [], length, slice_index, slice_set};
-ghost use Rattle.blocks.specs.Slots.{slots_out};
+ghost use Rattle.std.specs.Prelude.{◌≡◌, ℕ, ◌<◌, ◌≤◌, [], length, slice_index, slice_set};
+ghost use Rattle.blocks.specs.Slots.{slots_out, LowestFree};
 
 const SLOTS: usize = 1024;
 
@@ -28,6 +28,15 @@ impl Slots {
         ensures { result ≡ slice_index self.now.lens k }
     {
         self.lens.get(k).copied().unwrap_or(0)
+    }
+
+    /// The lowest free one of the first `count` slots. Over the part as a slice: a bound tested at each
+    /// slot takes half as long again where the pool is nearly full.
+    pub(crate) fn lowest_free(&self, count: usize) -> Option<usize>
+        requires { count ≤ 1024 }
+        ensures { LowestFree count self.now.lens result }
+    {
+        self.lens[..count].iter().position(|&len| len == 0)
     }
 
     /// Puts a block of `n` places into slot `k`.

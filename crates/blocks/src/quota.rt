@@ -33,7 +33,8 @@ impl<A: Allocator> Quota<A> {
     pub fn close(self) -> A
         ensures { result ≡ self.below }
     {
-        self.below
+        let Quota { below, limit: _ } = self;
+        below
     }
 
     // Whether `n` places more keep within the limit.

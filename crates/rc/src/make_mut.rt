@@ -106,7 +106,7 @@ impl<A: Allocator> Census<A> {
     {
         let q = self.allocate(counts.size)?;
         self.stand_copy(memory, p, q, counts);
-        self.give_up(p);
+        let _ = self.store.retire(p as usize);
         Ok(q)
     }
 

@@ -2,8 +2,9 @@ use Rattle.std.proofs.Common.{ap, ◌∙◌, subst, arith}
 use Rattle.cells.specs.Counts.{shared}
 use Rattle.cells.specs.declared.row.Counts.{Counts}
 use Rattle.rc.specs.Calls.{Made}
+use Rattle.disposal.specs.Books.{Books}
 use Rattle.rc.specs.Ends.{copied}
-use Rattle.rc.specs.Worlds.{world}
+use Rattle.rc.specs.Worlds.{World, world, after}
 use Rattle.rc.proofs.Making.{made}
 use Rattle.rc.proofs.census.Census.move_out.Goals as goal
 
@@ -23,7 +24,7 @@ returns g c =
       record {
         between = between;
         made = stands;
-        left = c.give_up.ensures;
+        left = ap {B = World} (λ (b : Books). after between b) c.retire.ensures.books;
         memory_after = c.stand_copy.ensures.memory ∙ ap (λ (k : Counts). copied c.args.memory.now p q k.standing) c.requires;
       },
     )

@@ -2,11 +2,16 @@
 use Rattle.std.proofs.Common.{◌≡◌, ℕ, zero, suc, ◌<◌, ◌≤◌, true, false, List, [], ◌∷◌, length, sym, ap, subst, ◌∙◌, refl, Option, Some, None, arith}
 use Rattle.std.specs.Option.{MatchOption}
 use Rattle.std.specs.List.{AllWithin, HoldsAt, remove as removed}
+use Rattle.std.proofs.lemmas.Bool.Decides.{nat_tests}
 use Rattle.std.proofs.lemmas.Bool.{cond-true, cond-false, or_left, or_right, or_from}
 use Rattle.blocks.specs.declared.block.Block.{Block}
 use Rattle.blocks.specs.Blocks.{Apart, total, same, member}
 use Rattle.blocks.specs.Edits.{total_remove, apart_remove}
 use Rattle.blocks.specs.Lined.{LineOf}
+
+-- the order of the two blocks does not matter
+pub same_comm : (x y : Block) → same x y ≡ same y x
+same_comm x y = grind (arith, nat_tests)
 
 -- the first line that has the block
 abbrev IsFirstLine : Block → List Block → ℕ → Type 0

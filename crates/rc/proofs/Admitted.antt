@@ -46,6 +46,11 @@ pub given_back : (s : Sort) (k : Counts) → has_loose s k ≡ true → one_loos
 given_back Strong k h = grind (arith, nat_tests)
 given_back Weak k h = grind (arith, nat_tests)
 
+-- a handle of one sort made loose leaves those of the other
+pub loosened_admitted : (s : Sort) (k : Counts) → admits s k ≡ true → admits (other s) k ≡ true → admits (other s) (one_looser s k) ≡ true
+loosened_admitted Strong k h l = grind (arith, nat_tests)
+loosened_admitted Weak k h l = grind (arith, nat_tests)
+
 pub others_still : (s : Sort) (k : Counts) → handles (other s) (one_held s k) ≡ handles (other s) k
 others_still Strong k = refl
 others_still Weak k = refl

@@ -51,9 +51,12 @@ ReleasesWeak w memory weak r v =
 -- Elements handed out
 
 -- the references become loose, and the owner goes with its weak count
+abbrev pub handed_out : {E : Type 0} → (E → List Reference) → World → ℕ → E → World
+handed_out refs w p x = after w (closed (books (with_rows w (each loosened w.rows (refs x))) none_yet) p)
+
+-- the first element of the cell at p is handed out
 abbrev pub Unwrapped : {E : Type 0} → (E → List Reference) → World → List E → ℕ → E → World → Type 0
-Unwrapped refs w memory p x v =
-    (take 1 (drop p memory) ≡ x ∷ []) × (v ≡ after w (closed (books (with_rows w (each loosened w.rows (refs x))) none_yet) p))
+Unwrapped refs w memory p x v = (take 1 (drop p memory) ≡ x ∷ []) × (v ≡ handed_out refs w p x)
 
 abbrev pub TryUnwrap : {E : Type 0} → (E → List Reference) → World → List E → Rc → Result E (Refused Rc) → World → Type 0
 TryUnwrap refs w memory rc r v =

@@ -107,19 +107,16 @@ impl<A: Allocator> Census<A> {
         self.check_handle(Sort::Strong, ticket)
     }
 
-    /// 1, 3, 5 and 8, for an element to be handed out: the element.
-    pub(crate) fn check_unwrap<E: Element>(
+    /// 1, 3, 5 and 8, for an element to be handed out: the element, lent, so that a decline moves none.
+    pub(crate) fn check_unwrap<'a, E: Element>(
         &self,
-        memory: &[E],
+        memory: &'a [E],
         ticket: Ticket,
-    ) -> Result<E, Decline>
-        ensures { Answers (wrong_memory (world A.meaning self.now) memory.now ∷ no_rc (world A.meaning self.now) ticket ∷ past_memory memory.now ticket.place ∷ slice_cell (world A.meaning self.now) ticket.place ∷ not_sole (world A.meaning self.now) ticket.place ∷ []) result (λ x. take 1 (drop ticket.place memory.now) ≡ x ∷ []) (Unit {0}) }
+    ) -> Result<&'a E, Decline>
+        ensures { Answers (wrong_memory (world A.meaning self.now) memory.now ∷ no_rc (world A.meaning self.now) ticket ∷ past_memory memory.now ticket.place ∷ slice_cell (world A.meaning self.now) ticket.place ∷ not_sole (world A.meaning self.now) ticket.place ∷ []) result (λ x. take 1 (drop ticket.place memory.now) ≡ x.now ∷ []) (Unit {0}) }
     {
         let cell = self.admit(memory, Sort::Strong, ticket)?;
-        let x = memory
-            .get(ticket.place as usize)
-            .copied()
-            .ok_or(Decline::Handle)?;
+        let x = memory.get(ticket.place as usize).ok_or(Decline::Handle)?;
         if cell.counts.shape == Shape::Slice {
             return Err(Decline::Slice);
         }
